@@ -1,0 +1,7 @@
+use mathlib.Core.Path.{refl}
+use Rattle.cash.specs.Laws.{cash-lawful}
+use Rattle.cash.proofs.Balances.{keeps-sum, pays-to-the-last}
+use Rattle.cash.proofs.limit.Needs as need
+
+pub returns : need.returns
+returns c = record { value = refl; lawful = cash-lawful; keeps-sum = keeps-sum; pays-out = pays-to-the-last }

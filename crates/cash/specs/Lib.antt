@@ -1,0 +1,5 @@
+pub mod Payments
+pub mod Cash
+pub mod Laws
+pub mod Model
+pub mod Sums

@@ -1,0 +1,2 @@
+-- What the contracts of the cells cite.
+pub mod Cell

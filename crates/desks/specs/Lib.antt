@@ -1,0 +1,5 @@
+pub mod Firsts
+pub mod Refusals
+pub mod Sets
+pub mod Forming
+pub mod Sizes

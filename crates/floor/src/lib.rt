@@ -1,0 +1,11 @@
+// The floor's faults, and the check of forming.
+mod faults;
+mod forming;
+
+pub use faults::BookInFloor;
+pub use faults::FloorFault;
+pub use faults::FloorFaultDebug;
+pub use faults::FloorFaultPartialEq;
+pub use faults::FormInFloor;
+pub use forming::check_form;
+pub use forming::BookKind;

@@ -1,0 +1,4 @@
+-- What the contracts of the ledger cite.
+pub mod Figures
+pub mod Changes
+pub mod Bounds

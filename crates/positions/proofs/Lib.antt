@@ -1,0 +1,2 @@
+pub mod NetLimit
+mod Enter

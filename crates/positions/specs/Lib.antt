@@ -1,0 +1,5 @@
+pub mod Trades
+pub mod Positions
+pub mod Laws
+pub mod Netted
+pub mod Model

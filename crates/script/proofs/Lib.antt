@@ -1,0 +1,3 @@
+pub mod Standing
+pub mod Printing
+pub mod Decimal

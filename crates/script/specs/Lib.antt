@@ -1,0 +1,7 @@
+pub mod Refusals
+pub mod Kinds
+pub mod Commands
+pub mod Readings
+pub mod Laws
+pub mod Text
+pub mod Numbers
