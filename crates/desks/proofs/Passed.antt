@@ -62,3 +62,12 @@ first-back (t ∷ ts) ys e = by (t .0) e (λ q. first-back ts ys q) where
   by : (b : Bool) → cond b (Some (t .1)) (first ts) ≡ None → (first ts ≡ None → first (ts ++ ys) ≡ first ys) → cond b (Some (t .1)) (first (ts ++ ys)) ≡ first ys
   by true e rest = let z : _≡_ {A = ℕ} 0 1 = cc in absurd (omega (arith, z))
   by false e rest = rest e
+
+-- what a refused call says, and one that is done
+pub refused-by : {S F : Type 0} (o : Option F) (s s′ : S) (f : F) (P : Type 0) → Unless o s (Err f) s′ P → (o ≡ Some f) × (s′ ≡ s)
+refused-by None s s′ f P h = let e = h .0 in let z : _≡_ {A = ℕ} 0 1 = cc in absurd (omega (arith, z))
+refused-by (Some g) s s′ f P h = let e = h .0 in (cc, h .1)
+
+pub done-by : {S F : Type 0} (o : Option F) (s s′ : S) (P : Type 0) → Unless o s (Ok tt) s′ P → (o ≡ None) × P
+done-by None s s′ P h = (refl, h .1)
+done-by (Some g) s s′ P h = let e = h .0 in let z : _≡_ {A = ℕ} 0 1 = cc in absurd (omega (arith, z))

@@ -1,3 +1,4 @@
-pub mod Standing
-pub mod Printing
-pub mod Decimal
+pub mod Steps
+mod Each
+mod Forming
+mod Fresh

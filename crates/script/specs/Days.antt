@@ -12,7 +12,6 @@ use Rattle.std.specs.declared.result.Result.the-variants.{Ok, Err}
 use Rattle.desks.specs.declared.group.GroupParameters.{GroupParameters}
 use Rattle.desks.specs.Firsts.{first}
 use Rattle.desks.specs.Sets.{has-desk}
-use Rattle.book.specs.Refusals.{book-refusal}
 use Rattle.book.specs.declared.faults.BookFault.{BookFault}
 use Rattle.book.specs.Rules.{Rules}
 use Rattle.book.specs.Calls.{opening-tests}
@@ -21,19 +20,20 @@ use Rattle.cash.specs.Cash.{cash}
 use Rattle.floor.specs.declared.forming.BookKind.{BookKind}
 use Rattle.floor.specs.declared.forming.BookKind.the-variants.{Positions, Cash}
 use Rattle.floor.specs.declared.faults.FloorFault.{FloorFault}
+use Rattle.floor.specs.declared.faults.FloorFault.the-variants.{Book}
 use Rattle.floor.specs.Forming.{form-reply}
-use Rattle.floor.specs.Refusals.{floor-refusal}
-use Rattle.script.specs.declared.command.Stage.{Stage}
-use Rattle.script.specs.declared.command.Stage.the-variants as stage
-use Rattle.script.specs.declared.command.Forming.{Forming}
-use Rattle.script.specs.declared.command.Opening as opening
-use Rattle.script.specs.declared.command.Command.{Command}
-use Rattle.script.specs.declared.command.Command.the-variants.{Form, Opening, Open, Quiet, Close}
-use Rattle.script.specs.declared.faults.ScriptFault.{ScriptFault}
-use Rattle.script.specs.declared.line.Line.{Line}
-use Rattle.script.specs.declared.line.Line.the-variants as line
-use Rattle.script.specs.Commands.{encode, read}
-use Rattle.script.specs.Refusals.{script-refusal}
+use Rattle.reader.specs.declared.command.Stage.{Stage}
+use Rattle.reader.specs.declared.command.Stage.the-variants as stage
+use Rattle.reader.specs.declared.command.Forming.{Forming}
+use Rattle.reader.specs.declared.command.Opening as opening
+use Rattle.reader.specs.declared.command.Command.{Command}
+use Rattle.reader.specs.declared.command.Command.the-variants.{Form, Opening, Open, Quiet, Close}
+use Rattle.reader.specs.declared.faults.ScriptFault.{ScriptFault}
+use Rattle.reader.specs.declared.faults.ScriptFault.the-variants.{Floor}
+use Rattle.account.specs.declared.lines.Line.{Line}
+use Rattle.account.specs.declared.lines.Line.the-variants as line
+use Rattle.reader.specs.Commands.{encode, read}
+use Rattle.reader.specs.Refusals.{script-refusal}
 
 -- a floor that was formed: the rules of its book, the hedge need of figures where the book has one, its desks, the faulty ones,
 -- how far it has come, and the figures of each desk
@@ -77,14 +77,24 @@ new-day rules needs g = record {
 abbrev pub lent : ℕ → GroupParameters → ℕ
 lent memory g = cond (leb (g .desks) 6 && leb (g .numbers) 4) memory 0
 
+-- the line of a command: its own, or that of its refusal
+abbrev pub answer-line : Line → Result (Unit {0}) ScriptFault → ℕ → Line
+answer-line done (Ok u) p = done
+answer-line done (Err f) p = line.Refused (script-refusal f) p
+
 -- forming: a day, or a refusal that leaves none
-abbrev pub formed : GroupParameters → Result BookKind FloorFault → State
+abbrev pub formed : GroupParameters → Result BookKind ScriptFault → State
 formed g (Ok k) = Some (new-day (rules-of-kind k (g .desks)) (needs-of-kind k) g)
 formed g (Err f) = None
 
-abbrev pub form-lines : ℕ → Result BookKind FloorFault → List Line
-form-lines p (Ok k) = line.Formed ∷ []
-form-lines p (Err f) = line.Refused (floor-refusal f) p ∷ []
+-- the floor's fault, inside the script's
+abbrev pub lifted : Result BookKind FloorFault → Result BookKind ScriptFault
+lifted (Ok k) = Ok k
+lifted (Err f) = Err (Floor f)
+
+abbrev pub form-line : ℕ → Result BookKind ScriptFault → Line
+form-line p (Ok k) = line.Formed
+form-line p (Err f) = line.Refused (script-refusal f) p
 
 -- an opening: the figure of every desk, or a refusal that changes nothing
 abbrev pub with-figures : Day → (ℕ → List ℤ) → Day
@@ -94,9 +104,10 @@ abbrev pub opened : Day → opening.Opening → Option BookFault → Day
 opened d o None = with-figures d (λ e. set (d .figures e) (o .figure) (o .amount))
 opened d o (Some f) = d
 
-abbrev pub opening-lines : ℕ → Option BookFault → List Line
-opening-lines p None = line.Opening ∷ []
-opening-lines p (Some f) = line.Refused (book-refusal f) p ∷ []
+-- the book's fault, inside the floor's, inside the script's
+abbrev pub opening-reply : Option BookFault → Result (Unit {0}) ScriptFault
+opening-reply None = Ok tt
+opening-reply (Some f) = Err (Floor (Book f))
 
 -- the same day at another stage
 abbrev pub at-stage : Day → Stage → Day
@@ -108,8 +119,8 @@ each f zero = []
 each f (suc n) = each f n ++ f n
 
 -- the lines of correct desks alone
-abbrev pub by-correct : Day → (ℕ → List Line) → ℕ → List Line
-by-correct d f e = cond (has-desk (d .faulty) e) [] (f e)
+abbrev pub by-correct : ℕ → (ℕ → List Line) → ℕ → List Line
+by-correct faulty f e = cond (has-desk faulty e) [] (f e)
 
 -- a figure that is not 0
 abbrev pub figure-line : ℕ → ℕ → ℤ → List Line
@@ -118,8 +129,8 @@ figure-line e i (pos (suc n)) = line.Figure (record { desk = e; figure = i; valu
 figure-line e i (negsuc n) = line.Figure (record { desk = e; figure = i; value = negsuc n }) ∷ []
 
 -- the figures of a desk
-abbrev pub figure-lines : Day → ℕ → List Line
-figure-lines d e = each (λ i. figure-line e i (getD (d .figures e) i (pos 0))) (d .rules .width)
+abbrev pub figure-lines : ℕ → (ℕ → List ℤ) → ℕ → List Line
+figure-lines width figures e = each (λ i. figure-line e i (getD (figures e) i (pos 0))) width
 
 -- its hedge need, where the book has one
 abbrev pub need-line : ℕ → Option ℤ → List Line
@@ -129,9 +140,12 @@ need-line e (Some z) = line.Need (record { desk = e; need = z }) ∷ []
 -- closing: nothing is under way, so it is quiet; then the figures of the correct desks, and then their hedge needs
 abbrev pub close-lines : Day → List Line
 close-lines d =
-    line.Closed true
-    ∷ each (by-correct d (figure-lines d)) (d .desks)
-    ++ each (by-correct d (λ e. need-line e (d .needs (d .figures e)))) (d .desks)
+    (line.Closed true ∷ [])
+    ++ (each (by-correct (d .faulty) (figure-lines (d .rules .width) (d .figures))) (d .desks)
+        ++ each (by-correct (d .faulty) (λ e. need-line e (d .needs (d .figures e)))) (d .desks))
+
+abbrev pub form-result : ℕ → Forming → Result BookKind ScriptFault
+form-result memory f = lifted (form-reply (f .parameters) (f .book) (lent memory (f .parameters)))
 
 -- what a command at a position makes of a state, on so much memory
 abbrev pub day-after : Day → Command → Day
@@ -142,7 +156,7 @@ day-after d Quiet = d
 day-after d Close = at-stage d stage.Closed
 
 abbrev pub state-after : ℕ → State → Command → State
-state-after memory None (Form f) = formed (f .parameters) (form-reply (f .parameters) (f .book) (lent memory (f .parameters)))
+state-after memory None (Form f) = formed (f .parameters) (form-result memory f)
 state-after memory None (Opening o) = None
 state-after memory None Open = None
 state-after memory None Quiet = None
@@ -152,33 +166,39 @@ state-after memory (Some d) c = Some (day-after d c)
 -- and the lines that it prints
 abbrev pub day-lines : ℕ → Day → Command → List Line
 day-lines p d (Form f) = []
-day-lines p d (Opening o) = opening-lines p (first (opening-tests (d .rules) (o .figure) (o .amount)))
+day-lines p d (Opening o) = answer-line line.Opening (opening-reply (first (opening-tests (d .rules) (o .figure) (o .amount)))) p ∷ []
 day-lines p d Open = line.Opened ∷ []
 day-lines p d Quiet = line.Quiet true ∷ []
 day-lines p d Close = close-lines d
 
 abbrev pub state-lines : ℕ → ℕ → State → Command → List Line
-state-lines memory p None (Form f) = form-lines p (form-reply (f .parameters) (f .book) (lent memory (f .parameters)))
+state-lines memory p None (Form f) = form-line p (form-result memory f) ∷ []
 state-lines memory p None (Opening o) = []
 state-lines memory p None Open = []
 state-lines memory p None Quiet = []
 state-lines memory p None Close = []
 state-lines memory p (Some d) c = day-lines p d c
 
--- the lines from a position on, by at most k commands: a fault of reading ends the script
+-- a fault of reading ends the script; a command that is read is followed by the rest
+abbrev pub then : ℕ → ℕ → State → (ℕ → State → List Line) → Result (Option Command) ScriptFault → List Line
+then memory p st rest (Ok None) = []
+then memory p st rest (Ok (Some c)) = state-lines memory p st c ++ rest (p + length (encode c)) (state-after memory st c)
+then memory p st rest (Err f) = line.Refused (script-refusal f) p ∷ []
+
+-- the lines from a position on, of at most k commands
 unfoldable pub lines-by : ℕ → ℕ → List ℕ → ℕ → State → List Line
-lines-by memory zero s p st = []
-lines-by memory (suc k) s p st =
-    elim (read s p (stage-of st)) [
-        Ok c ↦ elim c [
-            None ↦ []
-          | Some x ↦ state-lines memory p st x ++ lines-by memory k s (p + length (encode x)) (state-after memory st x) ]
-      | Err f ↦ line.Refused (script-refusal f) p ∷ [] ]
+lines-by zero memory s p st = []
+lines-by (suc k) memory s p st = then memory p st (lines-by k memory s) (read s p (stage-of st))
 
--- the lines from a position on: no command is shorter than one byte
-abbrev pub lines-from : ℕ → List ℕ → ℕ → State → List Line
-lines-from memory s p st = lines-by memory (suc (length s - p)) s p st
+-- the lines from a position on: as each command has a byte at least, no more commands than bytes, and one look at the end
+unfoldable pub lines-from : ℕ → List ℕ → ℕ → State → List Line
+unfolding lines-by
+lines-from memory s p st = lines-by (suc (length s - p)) memory s p st
 
--- the account of a whole script
+-- the account of a whole script, on so much memory
 abbrev pub account-of : ℕ → List ℕ → List Line
 account-of memory s = lines-from memory s 0 None
+
+-- the bytes that a script lends: enough for 6 desks and either book
+abbrev pub script-memory : ℕ
+script-memory = 6144

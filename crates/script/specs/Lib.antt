@@ -1,7 +1,3 @@
-pub mod Refusals
-pub mod Kinds
-pub mod Commands
-pub mod Readings
-pub mod Laws
-pub mod Text
-pub mod Numbers
+pub mod Days
+pub mod Meaning
+pub mod Turns

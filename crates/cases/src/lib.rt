@@ -1,0 +1,3 @@
+// Scripts, and the accounts that they must print.
+#[cfg(test)]
+mod tests;

@@ -1,0 +1,5 @@
+pub mod Refusals
+pub mod Kinds
+pub mod Commands
+pub mod Readings
+pub mod Laws

@@ -1,7 +1,0 @@
-use borrow.Author.Needs.{needs}
-use Rattle.script.proofs.Printing.{letter-text}
-use Rattle.script.proofs.lines.LineDisplay.fmt.Needs as need
-
--- the letter of a layer is one byte
-pub returns-in-Refused : need.returns-in-Refused
-returns-in-Refused g c = search (needs, letter-text)
