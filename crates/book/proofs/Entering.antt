@@ -8,12 +8,12 @@ use native.Mathlib.Nat.{mul-add, mul-one}
 use native.Mathlib.Omega.{arith}
 use lib.Dec.{eqb, ltb}
 use lib.IntN.{ℤ, pos, natAbs, _+ℤ_, +ℤ-idr}
-use lib.ListN.{length, getD}
+use lib.ListN.{length, getD, drop}
 use Rattle.std.proofs.shelf.Tests.{eq-eqb, ne-eqb, cases-eq, and-from, lt-ltb}
 use Rattle.ledger.specs.declared.Ledger.{Ledger}
-use Rattle.ledger.specs.Figures.{figure-at, count-at, figures, Whole}
+use Rattle.ledger.specs.Figures.{figure-at, count-at, figures, memory-of, Whole}
 use Rattle.ledger.specs.Bounds.{Within}
-use Rattle.ledger.specs.Changes.{Set, Added, Raised}
+use Rattle.ledger.specs.Changes.{Shape, Set, Added, Raised}
 use Rattle.ledger.proofs.Listed.{length-figures, getD-figures, figures-same}
 use Rattle.book.specs.Rules.{shifted, at-place}
 use Rattle.book.specs.Model.{most-items}
@@ -70,3 +70,7 @@ step-within o s l d i z r l′ p e w h =
 -- so that it is made
 pub added-fits : (l : Ledger) (d i : ℕ) (z : ℤ) (r : Bool) (l′ : Ledger) (k : ℕ) → Added l d i z r l′ → natAbs (figure-at l d i +ℤ z) ≤ k → k < 2 ^ 63 → Set l d i (figure-at l d i +ℤ z) r l′
 added-fits l d i z r l′ k p h g = p .fitting (fits64 (figure-at l d i +ℤ z) k h g)
+
+-- the bytes behind those that are needed
+pub same-behind : (l l′ : Ledger) (n : ℕ) → Shape l l′ → l .desks * l .width * 8 ≡ n → drop n (memory-of l′) ≡ drop n (memory-of l)
+same-behind l l′ n s e = ap (λ y. drop y (memory-of l′)) (sym e) ∙ s .behind ∙ ap (λ y. drop y (memory-of l)) e

@@ -7,7 +7,7 @@ use Prim.Native.Nat.{ℕ, _+_, _≤_, _<_}
 use lib.Dec.{leb, ltb}
 use lib.IntN.{ℤ, pos, natAbs}
 use lib.Signed.{ltZ}
-use lib.ListN.{length, getD, set, replicate}
+use lib.ListN.{length, getD, set, drop, replicate}
 use Rattle.std.specs.Options.{isSome, valueOr}
 use Rattle.std.specs.declared.option.Option.{Option}
 use Rattle.std.specs.declared.option.Option.the-variants.{Some, None}
@@ -55,6 +55,7 @@ module _ {B : Type 0} (m : BookModel B) where
     pub figures : (d : ℕ) → m .figures b′ d ≡ set (m .figures b d) i a
     pub count : (d : ℕ) → m .count b′ d ≡ m .count b d
     pub memory : length (m .memory b′) ≡ length (m .memory b)
+    pub behind : drop (m .bytes (m .desks b)) (m .memory b′) ≡ drop (m .bytes (m .desks b)) (m .memory b)
 
   abbrev pub Opens : B → ℕ → ℤ → Result (Unit {0}) BookFault → B → Type 0
   Opens b i a r b′ = Unless (first (opening-tests (rules-of b) i a)) b r b′ (Opened b i a b′)
@@ -86,6 +87,7 @@ module _ {B : Type 0} (m : BookModel B) where
     pub count : m .count b′ d ≡ m .count b d + 1
     pub others : (e : ℕ) → e ≢ d → (m .figures b′ e ≡ m .figures b e) × (m .count b′ e ≡ m .count b e)
     pub memory : length (m .memory b′) ≡ length (m .memory b)
+    pub behind : drop (m .bytes (m .desks b)) (m .memory b′) ≡ drop (m .bytes (m .desks b)) (m .memory b)
 
   abbrev pub Enters : B → ℕ → ℕ → List ℕ → Result (Unit {0}) BookFault → B → Type 0
   Enters b d o x r b′ = Unless (first (enter-tests b d o x)) b r b′ (Entered b d o x b′)

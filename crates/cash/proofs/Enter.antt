@@ -7,7 +7,7 @@ use Prim.Native.Nat.{ℕ, _+_, _*_, _^_, _≤_, _<_}
 use native.Mathlib.Omega.{arith}
 use lib.Dec.{eqb, leb, ltb}
 use lib.IntN.{ℤ, pos, natAbs, negℤ, _+ℤ_}
-use lib.ListN.{length, getD}
+use lib.ListN.{length, getD, drop}
 use lib.Signed.{leZ}
 use Rattle.std.specs.declared.option.Option.the-variants.{None}
 use Rattle.std.proofs.shelf.Signed.{ints}
@@ -25,7 +25,8 @@ use Rattle.book.specs.Model.{most-items}
 use Rattle.book.specs.Rules.{shifted, at-place}
 use Rattle.book.specs.Calls.{Entered}
 use Rattle.book.proofs.Shifts.{shifted-twice}
-use Rattle.book.proofs.Entering.{raise-done, count-done, count-kept, step-within, added-fits, figures-changed, figures-kept}
+use Rattle.book.proofs.Entering.{raise-done, count-done, count-kept, step-within, added-fits, figures-changed, figures-kept, same-behind}
+use Rattle.ledger.proofs.Places.{shape-then}
 use Rattle.cash.specs.declared.table.Cash.{Cash}
 use Rattle.cash.specs.Payments.{wrong-fields}
 use Rattle.cash.specs.Cash.{moves}
@@ -120,4 +121,7 @@ module _ (b : Cash) (d o : ℕ) (x : List ℕ) (r s t : Bool) (l m n : Ledger)
     count = ap (λ y. count-at y d) e ∙ same-counts d ∙ count-done (b .ledger) d r l p up;
     others = λ f ne. (ap (λ y. figures y f) e ∙ elsewhere f ne .0, ap (λ y. count-at y f) e ∙ elsewhere f ne .1);
     memory = ap (λ y. length (memory-of y)) e ∙ taken .shape .size ∙ paid .shape .size ∙ p .shape .size;
+    behind =
+      ap (λ y. drop (b .ledger .desks * b .ledger .desks * 8) (memory-of y)) e
+      ∙ same-behind (b .ledger) n (b .ledger .desks * b .ledger .desks * 8) (shape-then (b .ledger) m n (shape-then (b .ledger) l m (p .shape) (paid .shape)) (taken .shape)) (ap (λ y. b .ledger .desks * y * 8) (b .sized .1));
   }

@@ -25,3 +25,6 @@ pub fn limit() -> i64
 {
     2_024_000_000
 }
+
+#[cfg(test)]
+mod tests;

@@ -12,11 +12,15 @@ use Rattle.std.specs.Orderings.{Decides}
 use Rattle.std.proofs.shelf.Bits.{shr-shr, shr-le, shr-below, pow-pos, shr-split, mod-below, pow-below, le-div, div-below}
 use Rattle.std.proofs.shelf.Tests.{cases-lt, ltb-true, lt-ltb, le-ltb, eq-eqb, ne-eqb, eqb-true, eqb-false, not-true, not-from-false, and-parts, and-from, cases-bool}
 use Rattle.std.proofs.shelf.Ways.{tells}
-use Rattle.desks.specs.Sets.{how-many, has-desk, size-of, Beyond, beyond}
+use Rattle.desks.specs.Sets.{one, how-many, has-desk, size-of, Beyond, beyond}
+
+bit : (x : ℕ) → x < 2 → one (eqb x 1) ≡ x
+bit zero h = refl
+bit (suc zero) h = refl
+bit (suc (suc x)) h = absurd (omega (arith, h))
 
 -- the bits below a place, and those of what stands from it on
 pub below-and-rest : (b d : ℕ) → d ≤ 16 → how-many (has-desk b) d + ones (b / 2 ^ d) ≡ ones b
-unfolding how-many
 below-and-rest b zero h = let e : b / 2 ^ 0 ≡ b = div-one b in let f : ones (b / 2 ^ 0) ≡ ones b = ap ones e in omega arith
 below-and-rest b (suc d) h =
     let e : ones (b / 2 ^ d) ≡ b / 2 ^ d % 2 + ones (b / 2 ^ d / 2) = ones-step (b / 2 ^ d) in
@@ -26,7 +30,8 @@ below-and-rest b (suc d) h =
     let m : b / 2 ^ d % 2 < 2 = mod-below (b / 2 ^ d) 2 (omega arith) in
     let i = below-and-rest b d (omega arith) in
     let g : ones (b / 2 ^ d / 2) ≡ ones (b / 2 ^ suc d) = ap ones (f ∙ ap (λ k. b / 2 ^ k) (sym s)) in
-    rw l (grind (arith, tells))
+    let o : one (ltb d 16 && eqb (b / 2 ^ d % 2) 1) ≡ b / 2 ^ d % 2 = rw l (bit (b / 2 ^ d % 2) m) in
+    omega arith
 
 pub size-is : (b : ℕ) → b < 2 ^ 16 → ones b ≡ size-of b
 unfolding size-of ones

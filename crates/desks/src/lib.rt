@@ -20,3 +20,6 @@ pub use set::DeskSet;
 
 // The bytes of an item, the unit that desks publish and book.
 pub const ITEM_SIZE: usize = 8;
+
+#[cfg(test)]
+mod tests;

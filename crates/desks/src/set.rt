@@ -16,12 +16,6 @@ impl DeskSet {
         DeskSet { bits }
     }
 
-    pub fn bits(self) -> u16
-        ensures { λ r. ⌜ r ≡ self .bits ⌝ }
-    {
-        self.bits
-    }
-
     // Whether a desk is in it.
     pub fn has(self, desk: u8) -> bool
         ensures { λ r. ⌜ r ≡ has-desk (self .bits) desk ⌝ }

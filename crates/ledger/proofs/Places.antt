@@ -3,15 +3,18 @@ use mathlib.Core.Path.{_≡_, refl, sym, ap, _∙_}
 use mathlib.Core.Bool.{Bool, true, false, cond, _&&_}
 use mathlib.Core.Logic.{⊎-elim}
 use mathlib.Core.List.{List}
-use Prim.Native.Nat.{ℕ, _+_, _*_, _/_, _%_, _<_, _≤_}
+use Prim.Native.Nat.{ℕ, _+_, _-_, _*_, _/_, _%_, _<_, _≤_}
+use native.Mathlib.Nat.{mul-comm}
 use native.Mathlib.Omega.{arith}
 use lib.Dec.{eqb, ltb}
 use lib.IntN.{ℤ, pos}
-use lib.ListN.{length, getD, replicate}
+use lib.ListN.{length, getD, drop, replicate}
+use lib.Seq.{paste}
 use denote.Ref.{now}
 use Rattle.std.proofs.shelf.Bits.{div-mul-add, mod-mul-add, mul-add-lt}
-use Rattle.std.proofs.shelf.Lists.{getD-replicate, getD-past, length-replicate}
-use Rattle.std.proofs.shelf.Tests.{cases-eq, cases-lt, ltb-true, lt-ltb, le-ltb, eqb-true, eq-eqb, ne-eqb, and-parts, and-from, and-left, and-right, cond-false}
+use Rattle.std.proofs.shelf.Edits.{drop-paste}
+use Rattle.std.proofs.shelf.Lists.{getD-replicate, getD-past, length-replicate, drop-drop}
+use Rattle.std.proofs.shelf.Tests.{cases-eq, cases-lt, ltb-true, leb-true, lt-ltb, le-ltb, eqb-true, eq-eqb, ne-eqb, and-parts, and-from, and-left, and-right, cond-false}
 use Rattle.std.proofs.shelf.Ways.{tells}
 use Rattle.std.specs.declared.option.Option.{Option}
 use Rattle.std.specs.declared.option.Option.the-variants.{Some}
@@ -84,6 +87,27 @@ module _ (l : Ledger) (c′ : Cells) (d i : ℕ) (v : ℤ) (x : List ℕ) (r : B
           let same : known l e j ≡ known l d i = ap (λ a. known l a j) (eqb-true e d (both .0)) ∙ ap (λ a. known l d a) (eqb-true j i (both .1)) in
           sym k ∙ sym same ∙ t
 
+  -- the cell of a figure ends where the figures do, or before
+  behind : drop (l .desks * l .width * 8) (now (c′ .bytes)) ≡ drop (l .desks * l .width * 8) (now (l .cells .bytes))
+  behind = by r refl (p .bytes) where
+    by : (b : Bool) → r ≡ b → now (c′ .bytes) ≡ cond b (paste (now (l .cells .bytes)) ((d * l .width + i) * l .cells .width) x (l .cells .width)) (now (l .cells .bytes)) → drop (l .desks * l .width * 8) (now (c′ .bytes)) ≡ drop (l .desks * l .width * 8) (now (l .cells .bytes))
+    by false e h = ap (drop (l .desks * l .width * 8)) h
+    by true e h =
+        let j = d * l .width + i in
+        let a = and-parts (there (l .cells) j) (eqb (length x) (l .cells .width)) (sym (p .answer) ∙ e) in
+        let w : l .cells .width ≡ 8 = sym (eqb-true (length x) (l .cells .width) (a .1)) ∙ n in
+        let f : j * l .cells .width + l .cells .width ≤ length (now (l .cells .bytes)) = leb-true _ _ (a .0) in
+        let g : j * 8 + 8 ≤ length (now (l .cells .bytes)) = rw w at f in
+        let m : j < l .desks * l .width = omega (arith, mul-add-lt d (l .width) i (l .desks) (ltb-true _ _ (and-parts (ltb d (l .desks)) (ltb i (l .width)) k .0)) column, mul-comm (l .width) (l .desks)) in
+        let z : drop (j * 8 + 8) (paste (now (l .cells .bytes)) (j * 8) x 8) ≡ drop (j * 8 + 8) (now (l .cells .bytes)) = drop-paste (now (l .cells .bytes)) (j * 8) x 8 (omega arith) (omega arith) in
+        let s : j * 8 + 8 + (l .desks * l .width * 8 - (j * 8 + 8)) ≡ l .desks * l .width * 8 = omega arith in
+        ap (drop (l .desks * l .width * 8)) (h ∙ ap (λ y. paste (now (l .cells .bytes)) (j * y) x y) w)
+        ∙ ap (λ y. drop y (paste (now (l .cells .bytes)) (j * 8) x 8)) (sym s)
+        ∙ sym (drop-drop (l .desks * l .width * 8 - (j * 8 + 8)) (j * 8 + 8) (paste (now (l .cells .bytes)) (j * 8) x 8))
+        ∙ ap (drop (l .desks * l .width * 8 - (j * 8 + 8))) z
+        ∙ drop-drop (l .desks * l .width * 8 - (j * 8 + 8)) (j * 8 + 8) (now (l .cells .bytes))
+        ∙ ap (λ y. drop y (now (l .cells .bytes))) s
+
   shape : Shape l (over l c′)
   shape = record {
     desks = refl;
@@ -91,6 +115,7 @@ module _ (l : Ledger) (c′ : Cells) (d i : ℕ) (v : ℤ) (x : List ℕ) (r : B
     cut = p .width;
     size = p .size;
     memory = p .memory;
+    behind = behind;
     whole = λ w. (p .width ∙ w .0, w .1, rw (p .size) (w .2));
   }
 
@@ -182,14 +207,15 @@ upto-all l l′ i v n h k s u = record {
   figures e j = u e j ∙ ap (λ b. cond b v (figure-at l e j)) (below e j (reaches l e i) refl)
 
 pub shape-same : (l : Ledger) → Shape l l
-shape-same l = record { desks = refl; width = refl; cut = refl; size = refl; memory = refl; whole = λ w. w }
+shape-same l = record { desks = refl; width = refl; cut = refl; size = refl; memory = refl; behind = refl; whole = λ w. w }
 
 pub shape-then : (l l′ l″ : Ledger) → Shape l l′ → Shape l′ l″ → Shape l l″
-shape-then l l′ l″ s t = record {
+shape-then l l′ l″ s t = let n = ap (λ y. y * l′ .width * 8) (s .desks) ∙ ap (λ y. l .desks * y * 8) (s .width) in record {
   desks = t .desks ∙ s .desks;
   width = t .width ∙ s .width;
   cut = t .cut ∙ s .cut;
   size = t .size ∙ s .size;
   memory = t .memory ∙ s .memory;
+  behind = ap (λ y. drop y (memory-of l″)) (sym n) ∙ t .behind ∙ ap (λ y. drop y (memory-of l′)) n ∙ s .behind;
   whole = λ w. t .whole (s .whole w);
 }

@@ -5,7 +5,7 @@ use mathlib.Core.List.{List}
 use Prim.Native.Nat.{ℕ, _+_, _*_, _<_, _≤_}
 use lib.Dec.{ltb, eqb}
 use lib.IntN.{ℤ, pos, _+ℤ_}
-use lib.ListN.{length, replicate}
+use lib.ListN.{drop, length, replicate}
 use mir.Syntax.{w64}
 use mir.Val.{SFits}
 use denote.Ref.{RefT, now, name}
@@ -30,6 +30,8 @@ pub record Shape (l l′ : Ledger) : Type 0 where
   pub cut : l′ .cells .width ≡ l .cells .width
   pub size : length (memory-of l′) ≡ length (memory-of l)
   pub memory : name (l′ .cells .bytes) ≡ name (l .cells .bytes)
+  -- no byte behind the figures is written
+  pub behind : drop (l .desks * l .width * 8) (memory-of l′) ≡ drop (l .desks * l .width * 8) (memory-of l)
   pub whole : Whole l → Whole l′
 
 -- figure i of desk d was set to v, where r says whether it was

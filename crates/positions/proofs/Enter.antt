@@ -7,7 +7,7 @@ use Prim.Native.Nat.{ℕ, _+_, _*_, _^_, _≤_, _<_}
 use native.Mathlib.Omega.{arith}
 use lib.Dec.{eqb, ltb}
 use lib.IntN.{ℤ, pos, negsuc, natAbs, _+ℤ_}
-use lib.ListN.{length}
+use lib.ListN.{length, drop}
 use lib.Signed.{ltZ}
 use Rattle.std.specs.declared.option.Option.the-variants.{None}
 use Rattle.std.proofs.shelf.Tests.{or-parts, ltb-false}
@@ -23,7 +23,8 @@ use Rattle.book.specs.Items.{byte, quantity, padded}
 use Rattle.book.specs.Model.{most-items}
 use Rattle.book.specs.Rules.{shifted, at-place}
 use Rattle.book.specs.Calls.{Entered}
-use Rattle.book.proofs.Entering.{raise-done, count-done, count-kept, step-within, added-fits, figures-changed, figures-kept}
+use Rattle.book.proofs.Entering.{raise-done, count-done, count-kept, step-within, added-fits, figures-changed, figures-kept, same-behind}
+use Rattle.ledger.proofs.Places.{shape-then}
 use Rattle.book.proofs.Orders.{natAbs-between}
 use Rattle.positions.specs.declared.table.Positions.{Positions}
 use Rattle.positions.specs.declared.trade.Side.the-variants.{Fill, Hedge}
@@ -79,6 +80,9 @@ module _ (b : Positions) (d : ℕ) (x : List ℕ) (r r′ : Bool) (l l′ : Ledg
       (figures-kept l d _ _ r′ l′ made e ne ∙ figures-raised (b .ledger) d r l p e,
         same-count l l′ e (made .counts) (made .shape .desks) ∙ count-kept (b .ledger) d r l p e ne)
 
+  needed : b .ledger .desks * b .ledger .width * 8 ≡ b .ledger .desks * 1024
+  needed = rw (b .sized .1) (omega arith)
+
   pub entered : (o : ℕ) (b′ : Positions) → b′ .ledger ≡ l′ → Entered positions-model b d o x b′
   entered o b′ e = record {
     desks = ap (λ y. y .desks) e ∙ made .shape .desks ∙ p .shape .desks;
@@ -86,4 +90,5 @@ module _ (b : Positions) (d : ℕ) (x : List ℕ) (r r′ : Bool) (l l′ : Ledg
     count = ap (λ y. count-at y d) e ∙ count-here;
     others = λ f ne. (ap (λ y. figures y f) e ∙ elsewhere f ne .0, ap (λ y. count-at y f) e ∙ elsewhere f ne .1);
     memory = ap (λ y. length (memory-of y)) e ∙ made .shape .size ∙ p .shape .size;
+    behind = ap (λ y. drop (b .ledger .desks * 1024) (memory-of y)) e ∙ same-behind (b .ledger) l′ (b .ledger .desks * 1024) (shape-then (b .ledger) l l′ (p .shape) (made .shape)) needed;
   }

@@ -24,3 +24,6 @@ pub fn limit() -> i64
 {
     10_250_000
 }
+
+#[cfg(test)]
+mod tests;

@@ -2,3 +2,4 @@ pub mod Steps
 mod Each
 mod Forming
 mod Fresh
+mod Alike

@@ -1,3 +1,4 @@
 pub mod Days
 pub mod Meaning
 pub mod Turns
+pub mod Alike

@@ -9,6 +9,7 @@ ghost use Rattle.std.specs.declared.option.Option.the-variants.{Some, None};
 ghost use Rattle.desks.specs.Firsts.{first};
 ghost use Rattle.book.specs.Calls.{form-tests};
 ghost use Rattle.account.specs.Text.{account};
+ghost use Rattle.script.specs.Alike.{Shown-alike};
 ghost use Rattle.script.specs.Days.{account-of, lines-from, new-day, script-memory};
 use account::print;
 use account::Line;
@@ -60,9 +61,10 @@ pub fn run(heap: Global, script: &[u8], memory: &mut [u8]) -> Result<Vec<Line>, 
 // The memory that a script lends: enough for 6 desks and either book.
 const MEMORY: usize = 6144;
 
-// The account of a whole script, as text.
+// The account of a whole script, as text. Whatever the script does, no two desks are shown with different figures or needs.
 pub fn account_text(heap: Global, script: &[u8]) -> Result<String, AllocError>
-    ensures { λ r. ⌜ made r (λ text. string-bytes text ≡ account (account-of script-memory (now (script .entry)))) ⌝ }
+    ensures alike { λ _. ⌜ Shown-alike (account-of script-memory (now (script .entry))) ⌝ }
+    ensures text { λ r. ⌜ made r (λ text. string-bytes text ≡ account (account-of script-memory (now (script .entry)))) ⌝ }
 {
     let mut memory = vec![in heap; 0u8; MEMORY]?;
     let lines = run(heap, script, memory.as_mut_slice())?;

@@ -1,6 +1,6 @@
 use mathlib.Core.Path.{_≡_, refl, sym, ap, subst, _∙_}
 use mathlib.Core.Bool.{Bool, false, _||_}
-use Prim.Native.Nat.{_≤_, _<_}
+use Prim.Native.Nat.{_*_, _≤_, _<_}
 use native.Mathlib.Omega.{arith}
 use borrow.Author.Needs.{needs}
 use lib.Dec.{leb}
@@ -19,6 +19,7 @@ use Rattle.book.specs.Calls.{opening-tests}
 use Rattle.ledger.specs.Figures.{figures}
 use Rattle.ledger.proofs.Listed.{figures-set-all}
 use Rattle.ledger.proofs.Bounds.{within-set-all, counted-set-all, same-count}
+use Rattle.book.proofs.Entering.{same-behind}
 use Rattle.book.proofs.Orders.{natAbs-between, widened}
 use Rattle.positions.specs.Positions.{positions}
 use Rattle.positions.proofs.calls.PositionsBook.open.Needs as need
@@ -49,4 +50,5 @@ returns c =
       figures = λ d. figures-set-all _ _ _ _ p (b .whole) d ∙ ap (set (figures (b .ledger) d) (c .args .figure)) z;
       count = λ d. same-count (b .ledger) (c .set-all .last .self) d (p .counts) (p .shape .desks);
       memory = p .shape .size;
+      behind = same-behind (b .ledger) (c .set-all .last .self) (b .ledger .desks * 1024) (p .shape) (ap (λ y. b .ledger .desks * y * 8) (b .sized .1) ∙ omega arith);
     })

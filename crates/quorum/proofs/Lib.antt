@@ -1,0 +1,10 @@
+pub mod Counting
+pub mod Basics
+pub mod Among
+pub mod EchoKinds
+pub mod EchoOne
+pub mod EchoKept
+pub mod EchoLaws
+pub mod PartsShown
+pub mod Identities
+pub mod Bound

@@ -1,0 +1,6 @@
+pub mod Frames
+pub mod Machine
+pub mod DoubleEcho
+pub mod EchoInvariant
+pub mod Parts
+pub mod Network
