@@ -3,3 +3,4 @@ pub mod Cash
 pub mod Laws
 pub mod Model
 pub mod Sums
+pub mod Sample

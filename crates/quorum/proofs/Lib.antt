@@ -8,3 +8,4 @@ pub mod EchoLaws
 pub mod PartsShown
 pub mod Identities
 pub mod Bound
+pub mod RunsReach

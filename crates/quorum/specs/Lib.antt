@@ -4,3 +4,4 @@ pub mod DoubleEcho
 pub mod EchoInvariant
 pub mod Parts
 pub mod Network
+pub mod Runs
