@@ -61,7 +61,14 @@ pub impl fmt::Display for Line as LineDisplay {
             Line::Figure(line) => write!(f, "= {} {} {}", line.desk, line.figure, line.value),
             Line::Need(line) => write!(f, "H {} {}", line.desk, line.need),
             Line::Refused(refusal, offset) => {
-                write!(f, "! {} {} {} {}", refusal.number, refusal.layer.letter(), refusal.place, offset)
+                write!(
+                    f,
+                    "! {} {} {} {}",
+                    refusal.number,
+                    refusal.layer.letter(),
+                    refusal.place,
+                    offset
+                )
             }
         }
     }

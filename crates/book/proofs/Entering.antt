@@ -25,16 +25,18 @@ pub figures-changed : (l : Ledger) (d i : ℕ) (z : ℤ) (r : Bool) (l′ : Ledg
 figures-changed l d i z r l′ p w h k = shifted-is (figures l d) (figures l′ d) (at-place i z) same-length at-each where
   yes′ : r ≡ true
   yes′ = p .reached w h k
+
   same-length : length (figures l′ d) ≡ length (figures l d)
   same-length = length-figures l′ d (rw (p .shape .desks) h) ∙ p .shape .width ∙ sym (length-figures l d h)
+
   at-each : (j : ℕ) → j < length (figures l d) → getD (figures l′ d) j (pos 0) ≡ getD (figures l d) j (pos 0) +ℤ at-place i z j
   at-each j b =
       getD-figures l′ d j ∙ p .figures d j
       ∙ ap (λ t. cond (t && (eqb d d && eqb j i)) (figure-at l d i +ℤ z) (figure-at l d j)) yes′
       ∙ ap (λ t. cond (t && eqb j i) (figure-at l d i +ℤ z) (figure-at l d j)) (eq-eqb d d refl)
       ∙ ⊎-elim (λ (e : j ≡ i). ap (λ t. cond t (figure-at l d i +ℤ z) (figure-at l d j)) (eq-eqb j i e) ∙ ap (λ m. figure-at l d m +ℤ z) (sym e) ∙ sym (ap (λ t. figure-at l d j +ℤ cond t z (pos 0)) (eq-eqb j i e)))
-          (λ e. ap (λ t. cond t (figure-at l d i +ℤ z) (figure-at l d j)) (ne-eqb j i e) ∙ sym (+ℤ-idr (figure-at l d j)) ∙ sym (ap (λ t. figure-at l d j +ℤ cond t z (pos 0)) (ne-eqb j i e)))
-          (cases-eq j i)
+      (λ e. ap (λ t. cond t (figure-at l d i +ℤ z) (figure-at l d j)) (ne-eqb j i e) ∙ sym (+ℤ-idr (figure-at l d j)) ∙ sym (ap (λ t. figure-at l d j +ℤ cond t z (pos 0)) (ne-eqb j i e)))
+      (cases-eq j i)
       ∙ ap (λ y. y +ℤ at-place i z j) (sym (getD-figures l d j))
 
 -- the other desks keep theirs
@@ -48,7 +50,7 @@ figures-kept l d i v r l′ p e ne = figures-same l l′ e (p .shape .desks) (p 
 pub raise-done : (l : Ledger) (d : ℕ) (r : Bool) (l′ : Ledger) → Raised l d r l′ → Whole l → d < l .desks → count-at l d < most-items → r ≡ true
 raise-done l d r l′ p w h k =
     p .answer ∙ and-from (ltb d (l .desks)) (ltb d 16 && ltb (count-at l d) 65535) (lt-ltb d (l .desks) h)
-      (and-from (ltb d 16) (ltb (count-at l d) 65535) (lt-ltb d 16 (omega (arith, w .1))) (lt-ltb (count-at l d) 65535 (omega arith)))
+    (and-from (ltb d 16) (ltb (count-at l d) 65535) (lt-ltb d 16 (omega (arith, w .1))) (lt-ltb (count-at l d) 65535 (omega arith)))
 
 pub count-done : (l : Ledger) (d : ℕ) (r : Bool) (l′ : Ledger) → Raised l d r l′ → r ≡ true → count-at l′ d ≡ count-at l d + 1
 count-done l d r l′ p e = p .counts d ∙ ap (λ t. cond (t && eqb d d) (count-at l d + 1) (count-at l d)) e ∙ ap (λ t. cond t (count-at l d + 1) (count-at l d)) (eq-eqb d d refl)

@@ -59,10 +59,10 @@ changes-at-place zero k a h = absurd (omega (arith, h))
 changes-at-place (suc n) zero a h = ap (λ y. a +ℤ y) (none n (λ i. at-place 0 a (suc i)) (λ i. ap (λ b. cond b a (pos 0)) (ne-eqb (suc i) 0 (λ e. omega (arith, e))))) ∙ +ℤ-idr a
 changes-at-place (suc n) (suc k) a h =
     let e : changes n (λ i. at-place (suc k) a (suc i)) ≡ changes n (at-place k a) =
-        same n (λ i. at-place (suc k) a (suc i)) (at-place k a) (λ i. ⊎-elim
-            (λ (p : i ≡ k). ap (λ b. cond b a (pos 0)) (eq-eqb (suc i) (suc k) (ap suc p) ∙ sym (eq-eqb i k p)))
-            (λ p. ap (λ b. cond b a (pos 0)) (ne-eqb (suc i) (suc k) (λ q. p (omega arith)) ∙ sym (ne-eqb i k p)))
-            (cases-eq i k)) in
+    same n (λ i. at-place (suc k) a (suc i)) (at-place k a) (λ i. ⊎-elim
+    (λ (p : i ≡ k). ap (λ b. cond b a (pos 0)) (eq-eqb (suc i) (suc k) (ap suc p) ∙ sym (eq-eqb i k p)))
+    (λ p. ap (λ b. cond b a (pos 0)) (ne-eqb (suc i) (suc k) (λ q. p (omega arith)) ∙ sym (ne-eqb i k p)))
+    (cases-eq i k)) in
     ap (λ y. y +ℤ changes n (λ i. at-place (suc k) a (suc i))) (ap (λ b. cond b a (pos 0)) (ne-eqb 0 (suc k) (λ q. omega (arith, q)))) ∙ +ℤ-idl _ ∙ e ∙ changes-at-place n k a (omega arith)
 
 pub changes-sum : (n : ℕ) (change other : ℕ → ℤ) → changes n (λ i. change i +ℤ other i) ≡ changes n change +ℤ changes n other

@@ -4,9 +4,9 @@ ghost use Rattle.book.specs.Refusals.{book-refusal};
 use desks::FormFault;
 use desks::FormFaultDebug;
 use desks::FormFaultPartialEq;
+use desks::ITEM_SIZE;
 use desks::Layer;
 use desks::Refusal;
-use desks::ITEM_SIZE;
 
 // Why a book declines a call.
 #[derive(Clone, Copy, PartialEq, Eq, Debug)]
@@ -43,12 +43,36 @@ impl BookFault {
         let layer = Layer::Book;
         match self {
             BookFault::Form(fault) => fault.refusal(layer),
-            BookFault::Desk(desk) => Refusal { number: 5, layer, place: desk as usize },
-            BookFault::Figure(figure) => Refusal { number: 5, layer, place: figure as usize },
-            BookFault::Malformed(offset) => Refusal { number: 6, layer, place: offset as usize },
-            BookFault::Amount => Refusal { number: 6, layer, place: ITEM_SIZE },
-            BookFault::NotAdmitted(origin) => Refusal { number: 25, layer, place: origin as usize },
-            BookFault::Full(desk) => Refusal { number: 30, layer, place: desk as usize },
+            BookFault::Desk(desk) => Refusal {
+                number: 5,
+                layer,
+                place: desk as usize,
+            },
+            BookFault::Figure(figure) => Refusal {
+                number: 5,
+                layer,
+                place: figure as usize,
+            },
+            BookFault::Malformed(offset) => Refusal {
+                number: 6,
+                layer,
+                place: offset as usize,
+            },
+            BookFault::Amount => Refusal {
+                number: 6,
+                layer,
+                place: ITEM_SIZE,
+            },
+            BookFault::NotAdmitted(origin) => Refusal {
+                number: 25,
+                layer,
+                place: origin as usize,
+            },
+            BookFault::Full(desk) => Refusal {
+                number: 30,
+                layer,
+                place: desk as usize,
+            },
         }
     }
 }

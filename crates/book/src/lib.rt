@@ -17,7 +17,6 @@ mod faults;
 pub use checks::check_desk;
 pub use checks::check_desks;
 pub use checks::check_memory;
-
 pub use faults::BookFault;
 pub use faults::BookFaultDebug;
 pub use faults::BookFaultPartialEq;

@@ -34,11 +34,11 @@ keeps-sum n o x f fit a =
     let l : length f ≡ n = fit .figures in
     total-shifted f (moves o x)
     ∙ ap (λ z. total f +ℤ z)
-        (ap (λ k. changes k (moves o x)) l
-        ∙ changes-sum n (at-place (byte 1 x) q) (at-place o (negℤ q))
-        ∙ ap (λ z. z +ℤ changes n (at-place o (negℤ q))) (changes-at-place n (byte 1 x) q p)
-        ∙ ap (λ z. q +ℤ z) (changes-at-place n o (negℤ q) (fit .origin))
-        ∙ +ℤ-invr q)
+    (ap (λ k. changes k (moves o x)) l
+    ∙ changes-sum n (at-place (byte 1 x) q) (at-place o (negℤ q))
+    ∙ ap (λ z. z +ℤ changes n (at-place o (negℤ q))) (changes-at-place n (byte 1 x) q p)
+    ∙ ap (λ z. q +ℤ z) (changes-at-place n o (negℤ q) (fit .origin))
+    ∙ +ℤ-invr q)
     ∙ +ℤ-idr (total f)
 
 pub pays-to-the-last : (n : ℕ) → Pays-to-the-last n

@@ -92,27 +92,33 @@ module _ (b : Cash) (d o : ℕ) (x : List ℕ) (r s t : Bool) (l m n : Ledger)
   -- what a value of cash keeps
   pub kept : Whole n × (((2 ≤ n .desks) × (n .width ≡ n .desks)) × (Counted most-items n × (Within 1000000000 1000000 n × Unit {0})))
   kept =
-      let ds : n .desks ≡ b .ledger .desks = taken .shape .desks ∙ paid .shape .desks ∙ p .shape .desks in
-      (taken .shape .whole (paid .shape .whole whole),
-        ((rw ds (b .sized .0), taken .shape .width ∙ paid .shape .width ∙ p .shape .width ∙ b .sized .1 ∙ sym ds),
-        (counted-set most-items m d _ _ t n taken few-paid,
-        (within-set 1000000000 1000000 m d _ _ t n taken bound-taken within-paid, tt))))
+      let ds : n .desks ≡ b .ledger .desks = taken .shape .desks ∙ paid .shape .desks ∙ p .shape .desks in (
+        taken .shape .whole (paid .shape .whole whole),
+        (
+          (rw ds (b .sized .0), taken .shape .width ∙ paid .shape .width ∙ p .shape .width ∙ b .sized .1 ∙ sym ds),
+          (
+            counted-set most-items m d _ _ t n taken few-paid,
+            (within-set 1000000000 1000000 m d _ _ t n taken bound-taken within-paid, tt),
+          ),
+        ),
+      )
 
   figures-here : figures n d ≡ shifted (figures (b .ledger) d) (moves o x)
   figures-here =
       figures-changed m d o (negℤ (pos (quantity x))) t n taken (paid .shape .whole whole) (rw (paid .shape .desks, p .shape .desks) h) (rw (paid .shape .width, p .shape .width, b .sized .1) g)
       ∙ ap (λ f. shifted f (at-place o (negℤ (pos (quantity x)))))
-          (figures-changed l d (byte 1 x) (pos (quantity x)) s m paid whole (rw (p .shape .desks) h) (rw (p .shape .width, b .sized .1) (payee .0))
-          ∙ ap (λ f. shifted f (at-place (byte 1 x) (pos (quantity x)))) (figures-raised (b .ledger) d r l p d))
+      (figures-changed l d (byte 1 x) (pos (quantity x)) s m paid whole (rw (p .shape .desks) h) (rw (p .shape .width, b .sized .1) (payee .0))
+      ∙ ap (λ f. shifted f (at-place (byte 1 x) (pos (quantity x)))) (figures-raised (b .ledger) d r l p d))
       ∙ shifted-twice (figures (b .ledger) d) (at-place (byte 1 x) (pos (quantity x))) (at-place o (negℤ (pos (quantity x))))
 
   same-counts : (e : ℕ) → count-at n e ≡ count-at l e
   same-counts e = same-count m n e (taken .counts) (taken .shape .desks) ∙ same-count l m e (paid .counts) (paid .shape .desks)
 
   elsewhere : (e : ℕ) → e ≢ d → (figures n e ≡ figures (b .ledger) e) × (count-at n e ≡ count-at (b .ledger) e)
-  elsewhere e ne =
-      (figures-kept m d _ _ t n taken e ne ∙ figures-kept l d _ _ s m paid e ne ∙ figures-raised (b .ledger) d r l p e,
-        same-counts e ∙ count-kept (b .ledger) d r l p e ne)
+  elsewhere e ne = (
+    figures-kept m d _ _ t n taken e ne ∙ figures-kept l d _ _ s m paid e ne ∙ figures-raised (b .ledger) d r l p e,
+    same-counts e ∙ count-kept (b .ledger) d r l p e ne,
+  )
 
   pub entered : (b′ : Cash) → b′ .ledger ≡ n → Entered cash-model b d o x b′
   entered b′ e = record {
@@ -122,6 +128,6 @@ module _ (b : Cash) (d o : ℕ) (x : List ℕ) (r s t : Bool) (l m n : Ledger)
     others = λ f ne. (ap (λ y. figures y f) e ∙ elsewhere f ne .0, ap (λ y. count-at y f) e ∙ elsewhere f ne .1);
     memory = ap (λ y. length (memory-of y)) e ∙ taken .shape .size ∙ paid .shape .size ∙ p .shape .size;
     behind =
-      ap (λ y. drop (b .ledger .desks * b .ledger .desks * 8) (memory-of y)) e
-      ∙ same-behind (b .ledger) n (b .ledger .desks * b .ledger .desks * 8) (shape-then (b .ledger) m n (shape-then (b .ledger) l m (p .shape) (paid .shape)) (taken .shape)) (ap (λ y. b .ledger .desks * y * 8) (b .sized .1));
+        ap (λ y. drop (b .ledger .desks * b .ledger .desks * 8) (memory-of y)) e
+        ∙ same-behind (b .ledger) n (b .ledger .desks * b .ledger .desks * 8) (shape-then (b .ledger) m n (shape-then (b .ledger) l m (p .shape) (paid .shape)) (taken .shape)) (ap (λ y. b .ledger .desks * y * 8) (b .sized .1));
   }

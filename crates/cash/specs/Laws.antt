@@ -40,6 +40,6 @@ cash-lawful n = record {
   still-admitted = λ o p x y f fit fit′ ne a a′.
       let parts = and-parts (not (isSome (first (wrong-fields n p y)))) (covers p y f) a′ in
       and-from (not (isSome (first (wrong-fields n p y)))) (covers p y (shifted f (moves o x))) (parts .0)
-        (still-covers o p x y f (λ e. ne (sym e)) (subst (λ k. p < k) (sym (fit′ .figures)) (fit′ .origin)) (parts .1));
+      (still-covers o p x y f (λ e. ne (sym e)) (subst (λ k. p < k) (sym (fit′ .figures)) (fit′ .origin)) (parts .1));
   either-order = λ o p x y f fit fit′ ne a a′. either-order f (moves o x) (moves p y);
 }

@@ -18,7 +18,7 @@ cash-sound b = record {
   only-desks = λ d h. figures-none (b .ledger) d h;
   within = λ d i.
       subst (λ z. natAbs z ≤ balance-limit) (sym (getD-figures (b .ledger) d i))
-        (let h = b .within d i in let k = b .counted d in omega arith);
+      (let h = b .within d i in let k = b .counted d in omega arith);
   counted = b .counted;
 }
 

@@ -8,11 +8,11 @@ ghost use Rattle.ledger.specs.Figures.{figures};
 ghost use Rattle.cash.specs.Model.{cash-model};
 use crate::payment::Payment;
 use crate::table::Cash;
+use book::Book;
+use book::BookFault;
 use book::check_desk;
 use book::check_desks;
 use book::check_memory;
-use book::Book;
-use book::BookFault;
 use desks::ITEM_SIZE;
 use ledger::Ledger;
 
@@ -45,7 +45,9 @@ pub impl<'a> Book<'a> for Cash<'a> as CashBook {
     }
 
     fn make(desks: u8, memory: &'a mut [u8]) -> Cash<'a> {
-        Cash { ledger: Ledger::new(desks, desks as u16, memory) }
+        Cash {
+            ledger: Ledger::new(desks, desks as u16, memory),
+        }
     }
 
     fn desks(&self) -> u8 {

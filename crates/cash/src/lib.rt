@@ -12,7 +12,6 @@ mod payment;
 mod table;
 
 pub use calls::CashBook;
-
 pub use payment::Payment;
 pub use table::Cash;
 

@@ -11,7 +11,7 @@ use Prim.Native.Nat.{ℕ, zero, suc}
 use Rattle.desks.specs.Firsts.{Tests, first, unless, Unless}
 
 -- an answer is given where no fault applies, and is the one promised
-pub unless-ok : {A F : Type 0} (o : Option F) (a b : A) → _≡_ {A = Result A F} (Ok a) ( unless o b) → (o ≡ None) × (a ≡ b)
+pub unless-ok : {A F : Type 0} (o : Option F) (a b : A) → _≡_ {A = Result A F} (Ok a) (unless o b) → (o ≡ None) × (a ≡ b)
 unless-ok None a b e = (refl, cc)
 unless-ok {F = F} (Some f) a b e = let z : _≡_ {A = ℕ} 0 1 = cc in absurd (omega (arith, z))
 

@@ -78,10 +78,26 @@ impl FormFault {
         ensures { λ r. ⌜ r ≡ form-refusal layer self ⌝ }
     {
         match self {
-            FormFault::Range(parameter) => Refusal { number: 1, layer, place: parameter.place() },
-            FormFault::Resilience(faults) => Refusal { number: 2, layer, place: faults as usize },
-            FormFault::FaultySet(size) => Refusal { number: 3, layer, place: size as usize },
-            FormFault::Memory(needed) => Refusal { number: 4, layer, place: needed },
+            FormFault::Range(parameter) => Refusal {
+                number: 1,
+                layer,
+                place: parameter.place(),
+            },
+            FormFault::Resilience(faults) => Refusal {
+                number: 2,
+                layer,
+                place: faults as usize,
+            },
+            FormFault::FaultySet(size) => Refusal {
+                number: 3,
+                layer,
+                place: size as usize,
+            },
+            FormFault::Memory(needed) => Refusal {
+                number: 4,
+                layer,
+                place: needed,
+            },
         }
     }
 }

@@ -3,13 +3,13 @@ ghost use Rattle.std.specs.declared.result.Result.the-variants.{Ok};
 ghost use Rattle.desks.specs.Forming.{outside};
 ghost use mathlib.Core.Bool.{false};
 ghost use Rattle.floor.specs.Forming.{bytes-of, form-reply};
-use crate::faults::FloorFault;
 use crate::faults::BookInFloor;
+use crate::faults::FloorFault;
 use crate::faults::FormInFloor;
-use cash::Cash;
-use cash::CashBook;
 use book::Book;
 use book::BookFault;
+use cash::Cash;
+use cash::CashBook;
 use desks::FormFault;
 use desks::GroupParameters;
 use desks::Parameter;
@@ -37,7 +37,11 @@ impl BookKind {
 }
 
 // Whether a floor can be formed on so many bytes of memory, and with which book.
-pub fn check_form(parameters: GroupParameters, book: u8, memory: usize) -> Result<BookKind, FloorFault>
+pub fn check_form(
+    parameters: GroupParameters,
+    book: u8,
+    memory: usize,
+) -> Result<BookKind, FloorFault>
     ensures { λ r. ⌜ r ≡ form-reply parameters book memory ⌝ }
 {
     parameters.check_ranges()?;

@@ -7,5 +7,5 @@ pub use faults::FloorFault;
 pub use faults::FloorFaultDebug;
 pub use faults::FloorFaultPartialEq;
 pub use faults::FormInFloor;
-pub use forming::check_form;
 pub use forming::BookKind;
+pub use forming::check_form;

@@ -50,16 +50,16 @@ within-raised a b l d r l′ p w = λ e j.
 
 pub counted-raised : (most : ℕ) (l : Ledger) (d : ℕ) (r : Bool) (l′ : Ledger) → Raised l d r l′ → count-at l d < most → Counted most l → Counted most l′
 counted-raised most l d r l′ p h c = λ e. rw (p .counts e) (at (r && eqb e d) e refl) where
-    at : (t : Bool) (e : ℕ) → (r && eqb e d) ≡ t → cond t (count-at l e + 1) (count-at l e) ≤ most
-    at true e q = let x = eqb-true e d (and-parts r (eqb e d) q .1) in let y : count-at l e ≡ count-at l d = ap (count-at l) x in omega arith
-    at false e q = c e
+  at : (t : Bool) (e : ℕ) → (r && eqb e d) ≡ t → cond t (count-at l e + 1) (count-at l e) ≤ most
+  at true e q = let x = eqb-true e d (and-parts r (eqb e d) q .1) in let y : count-at l e ≡ count-at l d = ap (count-at l) x in omega arith
+  at false e q = c e
 
 pub within-set : (a b : ℕ) (l : Ledger) (d i : ℕ) (v : ℤ) (r : Bool) (l′ : Ledger) → Set l d i v r l′ → natAbs v ≤ a + b * count-at l d → Within a b l → Within a b l′
 within-set a b l d i v r l′ p h w = λ e j.
     let c : count-at l′ e ≡ count-at l e = same-count l l′ e (p .counts) (p .shape .desks) in
     rw (p .figures e j, c) (chosen (r && (eqb e d && eqb j i)) v (figure-at l e j) (a + b * count-at l e)
-      (λ t. let x = eqb-true e d (and-parts (eqb e d) (eqb j i) (and-parts r (eqb e d && eqb j i) t .1) .0) in subst (λ y. natAbs v ≤ a + b * count-at l y) (sym x) h)
-      (w e j))
+    (λ t. let x = eqb-true e d (and-parts (eqb e d) (eqb j i) (and-parts r (eqb e d && eqb j i) t .1) .0) in subst (λ y. natAbs v ≤ a + b * count-at l y) (sym x) h)
+    (w e j))
 
 pub counted-set : (most : ℕ) (l : Ledger) (d i : ℕ) (v : ℤ) (r : Bool) (l′ : Ledger) → Set l d i v r l′ → Counted most l → Counted most l′
 counted-set most l d i v r l′ p h = λ e. let c = same-count l l′ e (p .counts) (p .shape .desks) in let k = h e in omega arith

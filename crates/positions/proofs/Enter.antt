@@ -61,11 +61,16 @@ module _ (b : Positions) (d : ℕ) (x : List ℕ) (r r′ : Bool) (l l′ : Ledg
 
   -- what a value of positions keeps
   pub kept : Whole l′ × (((2 ≤ l′ .desks) × (l′ .width ≡ 128)) × (Counted most-items l′ × (Within 10000 10000 l′ × Unit {0})))
-  kept =
-      (made .shape .whole (p .shape .whole (b .whole)),
-        ((rw (made .shape .desks, p .shape .desks) (b .sized .0), made .shape .width ∙ p .shape .width ∙ b .sized .1),
-        (counted-set most-items l d _ _ r′ l′ made few,
-        (within-set 10000 10000 l d _ _ r′ l′ made bound (within-raised 10000 10000 (b .ledger) d r l p (b .within)), tt))))
+  kept = (
+    made .shape .whole (p .shape .whole (b .whole)),
+    (
+      (rw (made .shape .desks, p .shape .desks) (b .sized .0), made .shape .width ∙ p .shape .width ∙ b .sized .1),
+      (
+        counted-set most-items l d _ _ r′ l′ made few,
+        (within-set 10000 10000 l d _ _ r′ l′ made bound (within-raised 10000 10000 (b .ledger) d r l p (b .within)), tt),
+      ),
+    ),
+  )
 
   pub figures-here : figures l′ d ≡ shifted (figures (b .ledger) d) (at-place (target x) (lots x))
   figures-here =
@@ -76,9 +81,10 @@ module _ (b : Positions) (d : ℕ) (x : List ℕ) (r r′ : Bool) (l l′ : Ledg
   count-here = same-count l l′ d (made .counts) (made .shape .desks) ∙ count-done (b .ledger) d r l p up
 
   pub elsewhere : (e : ℕ) → e ≢ d → (figures l′ e ≡ figures (b .ledger) e) × (count-at l′ e ≡ count-at (b .ledger) e)
-  elsewhere e ne =
-      (figures-kept l d _ _ r′ l′ made e ne ∙ figures-raised (b .ledger) d r l p e,
-        same-count l l′ e (made .counts) (made .shape .desks) ∙ count-kept (b .ledger) d r l p e ne)
+  elsewhere e ne = (
+    figures-kept l d _ _ r′ l′ made e ne ∙ figures-raised (b .ledger) d r l p e,
+    same-count l l′ e (made .counts) (made .shape .desks) ∙ count-kept (b .ledger) d r l p e ne,
+  )
 
   needed : b .ledger .desks * b .ledger .width * 8 ≡ b .ledger .desks * 1024
   needed = rw (b .sized .1) (omega arith)

@@ -6,16 +6,17 @@ ghost use Rattle.positions.specs.Model.{positions-model};
 ghost use Rattle.positions.specs.Positions.{hedge-need};
 use crate::table::Positions;
 use crate::trade::Trade;
-use book::check_desk;
-use book::check_desks;
-use book::check_memory;
 use book::Book;
 use book::BookFault;
 use book::Hedged;
+use book::check_desk;
+use book::check_desks;
+use book::check_memory;
 use desks::ITEM_SIZE;
 use ledger::Ledger;
 
 const WIDTH: u16 = 128;
+
 const MOST_ITEMS: u16 = 1024;
 
 pub impl<'a> Book<'a> for Positions<'a> as PositionsBook {
@@ -36,7 +37,9 @@ pub impl<'a> Book<'a> for Positions<'a> as PositionsBook {
     }
 
     fn make(desks: u8, memory: &'a mut [u8]) -> Positions<'a> {
-        Positions { ledger: Ledger::new(desks, WIDTH, memory) }
+        Positions {
+            ledger: Ledger::new(desks, WIDTH, memory),
+        }
     }
 
     fn desks(&self) -> u8 {

@@ -39,7 +39,11 @@ impl Trade {
         if e != 0 || f != 0 {
             return Err(6);
         }
-        Ok(Trade { side, instrument, lots })
+        Ok(Trade {
+            side,
+            instrument,
+            lots,
+        })
     }
 
     // The figure that it changes.

@@ -48,7 +48,7 @@ module _ {K C : Type 0} (n numbers : ℕ) where
   step : (x : Named K C) (w : List (Named K C)) → together (x ∷ w) ≡ once x + together w
   step x w =
       sums-add (λ o. sums (λ j. length (wire-of o (suc j) (x ∷ w))) numbers) (λ o. sums (λ j. one (of o (suc j) x)) numbers) (λ o. sums (λ j. length (wire-of o (suc j) w)) numbers) n
-        (λ o. sums-add (λ j. length (wire-of o (suc j) (x ∷ w))) (λ j. one (of o (suc j) x)) (λ j. length (wire-of o (suc j) w)) numbers (λ j. longer x w o (suc j)))
+      (λ o. sums-add (λ j. length (wire-of o (suc j) (x ∷ w))) (λ j. one (of o (suc j) x)) (λ j. length (wire-of o (suc j) w)) numbers (λ j. longer x w o (suc j)))
 
   counted : (x : Named K C) → x .origin < n → 1 ≤ x .number → x .number ≤ numbers → 1 ≤ once x
   counted x h g k =
@@ -67,6 +67,6 @@ pub bounded : {D K C : Type 0} (P : Protocol D K C) (m : ℕ) → Lawful-everywh
 bounded P m lawful H valid enough s a numbers h =
     let most = 2 * H .n + 1 in
     let each : (o : ℕ) → o < H .n → sums (λ j. length (wire-of o (suc j) (s .wire))) numbers ≤ numbers * most =
-        λ o l. sums-le (λ j. length (wire-of o (suc j) (s .wire))) most numbers (λ j k. lawful H valid enough s a o (suc j) .short) in
+    λ o l. sums-le (λ j. length (wire-of o (suc j) (s .wire))) most numbers (λ j k. lawful H valid enough s a o (suc j) .short) in
     let all = sums-le (λ o. sums (λ j. length (wire-of o (suc j) (s .wire))) numbers) (numbers * most) (H .n) each in
     omega (arith, cover (H .n) numbers (s .wire) h, all, mul-assoc (H .n) numbers most)

@@ -77,6 +77,7 @@ cnt-one b d n l = past n l
     before : (n : ℕ) → n ≤ d → how-many (λ k. eqb k d && b) n ≡ 0
     before zero h = refl
     before (suc n) h = rw (ne-eqb n d (λ e. omega arith)) (omega (arith, before n (omega arith)))
+
     past : (n : ℕ) → d < n → how-many (λ k. eqb k d && b) n ≡ one b
     past zero h = omega arith
     past (suc n) h = ⊎-elim (λ e. rw (eq-eqb n d e) (omega (arith, before n (omega arith)))) (λ ne. rw (ne-eqb n d ne) (omega (arith, past n (omega arith)))) (cases-eq n d)
@@ -95,8 +96,10 @@ cnt-more p q (suc n) h = at (p n) (q n) refl refl (cnt-more p q n)
   where
     Found : ℕ → Type 0
     Found m = (k : ℕ) × (k < m) × (p k ≡ true) × (q k ≡ false)
+
     later : Found n → Found (suc n)
     later r = (r .0, omega (arith, r .1), r .2, r .3)
+
     at : (a b : Bool) → p n ≡ a → q n ≡ b → (how-many q n < how-many p n → Found n) → Found (suc n)
     at true false e f ih = (n, omega arith, e, f)
     at true true e f ih = later (ih (omega (arith, h, one-true (p n) e, one-true (q n) f)))

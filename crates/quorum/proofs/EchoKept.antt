@@ -55,21 +55,21 @@ module _ {C : Type 0} (S : Setting C) (F : Valid S) where
     now-settled : Settled S D2
     now-settled = record {
       by-votes = λ x e. ⊎-elim
-        (λ a. omega (arith, was .by-votes x a, votes-more (D .readies) (λ q. eqb q p && eqk k ready) c x))
-        (λ a. rw (a .1) (ltb-true _ _ (a .0)))
-        (settle-cases (D .accepted) (final S D1 c) c x e);
+          (λ a. omega (arith, was .by-votes x a, votes-more (D .readies) (λ q. eqb q p && eqk k ready) c x))
+          (λ a. rw (a .1) (ltb-true _ _ (a .0)))
+          (settle-cases (D .accepted) (final S D1 c) c x e);
       echoed = λ x h. ⊎-elim
-        (λ e. settle-fires (D .ready-sent) (heavy S D1 c) c (or-left _ _ (lt-ltb _ _ (rw e at h))))
-        (λ ne. settle-some (D .ready-sent) _ c (was .echoed x (omega (arith, h, votes-other (D .echoes) (λ q. eqb q p && eqk k echo) c x ne))))
-        (cases-same S F x c);
+          (λ e. settle-fires (D .ready-sent) (heavy S D1 c) c (or-left _ _ (lt-ltb _ _ (rw e at h))))
+          (λ ne. settle-some (D .ready-sent) _ c (was .echoed x (omega (arith, h, votes-other (D .echoes) (λ q. eqb q p && eqk k echo) c x ne))))
+          (cases-same S F x c);
       joined = λ x h. ⊎-elim
-        (λ e. settle-fires (D .ready-sent) (heavy S D1 c) c (or-right _ _ (lt-ltb _ _ (rw e at h))))
-        (λ ne. settle-some (D .ready-sent) _ c (was .joined x (omega (arith, h, votes-other (D .readies) (λ q. eqb q p && eqk k ready) c x ne))))
-        (cases-same S F x c);
+          (λ e. settle-fires (D .ready-sent) (heavy S D1 c) c (or-right _ _ (lt-ltb _ _ (rw e at h))))
+          (λ ne. settle-some (D .ready-sent) _ c (was .joined x (omega (arith, h, votes-other (D .readies) (λ q. eqb q p && eqk k ready) c x ne))))
+          (cases-same S F x c);
       done = λ x h. ⊎-elim
-        (λ e. settle-fires (D .accepted) (final S D1 c) c (lt-ltb _ _ (rw e at h)))
-        (λ ne. settle-some (D .accepted) _ c (was .done x (omega (arith, h, votes-other (D .readies) (λ q. eqb q p && eqk k ready) c x ne))))
-        (cases-same S F x c);
+          (λ e. settle-fires (D .accepted) (final S D1 c) c (lt-ltb _ _ (rw e at h)))
+          (λ ne. settle-some (D .accepted) _ c (was .done x (omega (arith, h, votes-other (D .readies) (λ q. eqb q p && eqk k ready) c x ne))))
+          (cases-same S F x c);
     }
 
     now-grown : Grown D D2
@@ -89,23 +89,24 @@ module _ {C : Type 0} (S : Setting C) (F : Valid S) where
         e q x g h = ⊎-elim
             (λ a. sound .true-votes d gd .echoes q x g a)
             (λ a. let b = and-parts _ _ (a .0) in
-              let qp : q ≡ p = eqb-true _ _ (b .0) in
-              let ke : k ≡ echo = eqk-true _ _ (b .1) in
-              let said : says S s p k ≡ Some c = genuine .said (subst (Correct S) qp g) in
-              let said2 : says S s p echo ≡ Some c = subst (λ y. says S s p y ≡ Some c) ke said in
-              let said3 : s .desk q .echo-sent ≡ Some c = subst (λ y. s .desk y .echo-sent ≡ Some c) (sym qp) said2 in
-              said3 ∙ ap Some (sym (a .1)))
+            let qp : q ≡ p = eqb-true _ _ (b .0) in
+            let ke : k ≡ echo = eqk-true _ _ (b .1) in
+            let said : says S s p k ≡ Some c = genuine .said (subst (Correct S) qp g) in
+            let said2 : says S s p echo ≡ Some c = subst (λ y. says S s p y ≡ Some c) ke said in
+            let said3 : s .desk q .echo-sent ≡ Some c = subst (λ y. s .desk y .echo-sent ≡ Some c) (sym qp) said2 in
+            said3 ∙ ap Some (sym (a .1)))
             (settle-cases (s .desk d .echoes q) (eqb q p && eqk k echo) c x h)
+
         r : (q : ℕ) (x : C) → Correct S q → recorded (s .desk d) p k c .readies q ≡ Some x → s .desk q .ready-sent ≡ Some x
         r q x g h = ⊎-elim
             (λ a. sound .true-votes d gd .readies q x g a)
             (λ a. let b = and-parts _ _ (a .0) in
-              let qp : q ≡ p = eqb-true _ _ (b .0) in
-              let ke : k ≡ ready = eqk-true _ _ (b .1) in
-              let said : says S s p k ≡ Some c = genuine .said (subst (Correct S) qp g) in
-              let said2 : says S s p ready ≡ Some c = subst (λ y. says S s p y ≡ Some c) ke said in
-              let said3 : s .desk q .ready-sent ≡ Some c = subst (λ y. s .desk y .ready-sent ≡ Some c) (sym qp) said2 in
-              said3 ∙ ap Some (sym (a .1)))
+            let qp : q ≡ p = eqb-true _ _ (b .0) in
+            let ke : k ≡ ready = eqk-true _ _ (b .1) in
+            let said : says S s p k ≡ Some c = genuine .said (subst (Correct S) qp g) in
+            let said2 : says S s p ready ≡ Some c = subst (λ y. says S s p y ≡ Some c) ke said in
+            let said3 : s .desk q .ready-sent ≡ Some c = subst (λ y. s .desk y .ready-sent ≡ Some c) (sym qp) said2 in
+            said3 ∙ ap Some (sym (a .1)))
             (settle-cases (s .desk d .readies q) (eqb q p && eqk k ready) c x h)
 
     -- so the call never only marks
@@ -175,8 +176,8 @@ module _ {C : Type 0} (S : Setting C) (F : Valid S) where
       from-origin' : (q : ℕ) (x : C) → Correct S q → Correct S (S .origin) → s' .desk q .echo-sent ≡ Some x → s' .offered ≡ Some x
       from-origin' q x g o e = rw same-offer (each (λ y D. (z : C) → Correct S y → D .echo-sent ≡ Some z → s .offered ≡ Some z)
           (λ z gz h. ⊎-elim (λ a. sound .from-origin d z gd o a)
-            (λ a. ⊎-elim (λ i. init-true i o) (λ hv. echo-true c o (heavy-backs S F s sound (recorded (s .desk d) p k c) now-true c hv)) (or-cases _ _ (a .0)) ∙ ap Some (sym (a .1)))
-            (settle-cases _ _ c z h))
+          (λ a. ⊎-elim (λ i. init-true i o) (λ hv. echo-true c o (heavy-backs S F s sound (recorded (s .desk d) p k c) now-true c hv)) (or-cases _ _ (a .0)) ∙ ap Some (sym (a .1)))
+          (settle-cases _ _ c z h))
           (λ y ne z gz h. sound .from-origin y z gz o h) q x g e)
 
       -- frames on the wire before are told after
@@ -222,6 +223,7 @@ module _ {C : Type 0} (S : Setting C) (F : Valid S) where
           where
             echoed : List (Frame Kind C)
             echoed = fresh d echo (s .desk d .echo-sent) (s' .desk d .echo-sent)
+
             readied : List (Frame Kind C)
             readied = fresh d ready (s .desk d .ready-sent) (s' .desk d .ready-sent)
 
@@ -240,11 +242,14 @@ module _ {C : Type 0} (S : Setting C) (F : Valid S) where
             (cases-eq q d)
 
         sized' : length (s' .wire) ≤ how-many (λ q. some (s' .desk q .echo-sent)) (S .n) + how-many (λ q. some (s' .desk q .ready-sent)) (S .n) + one (some (s' .offered))
-        sized' = rw (wire-is, same-offer) (simp (length-append, as-long) (omega (arith, sound .sized,
-            cnt-point (λ q. some (s .desk q .echo-sent)) (λ q. some (s' .desk q .echo-sent)) d (S .n) (gd .known) (λ q l ne e. rw (at-others q ne) e),
-            cnt-point (λ q. some (s .desk q .ready-sent)) (λ q. some (s' .desk q .ready-sent)) d (S .n) (gd .known) (λ q l ne e. rw (at-others q ne) e),
-            fresh-length d echo (s .desk d .echo-sent) (s' .desk d .echo-sent) (λ e. let v = some-value _ e in some-yes _ (v .0) (grown d .echo-sent (v .0) (v .1))),
-            fresh-length d ready (s .desk d .ready-sent) (s' .desk d .ready-sent) (λ e. let v = some-value _ e in some-yes _ (v .0) (grown d .ready-sent (v .0) (v .1))))))
+        sized' = rw (wire-is, same-offer) (simp (length-append, as-long) (omega (
+          arith,
+          sound .sized,
+          cnt-point (λ q. some (s .desk q .echo-sent)) (λ q. some (s' .desk q .echo-sent)) d (S .n) (gd .known) (λ q l ne e. rw (at-others q ne) e),
+          cnt-point (λ q. some (s .desk q .ready-sent)) (λ q. some (s' .desk q .ready-sent)) d (S .n) (gd .known) (λ q l ne e. rw (at-others q ne) e),
+          fresh-length d echo (s .desk d .echo-sent) (s' .desk d .echo-sent) (λ e. let v = some-value _ e in some-yes _ (v .0) (grown d .echo-sent (v .0) (v .1))),
+          fresh-length d ready (s .desk d .ready-sent) (s' .desk d .ready-sent) (λ e. let v = some-value _ e in some-yes _ (v .0) (grown d .ready-sent (v .0) (v .1))),
+        )))
 
         pub received-sound : Sound S s'
         received-sound = record {
@@ -264,17 +269,21 @@ module _ {C : Type 0} (S : Setting C) (F : Valid S) where
         ((q : ℕ) (l : Kind) → on (by q l) (s .wire) ≡ true → on (by q l) w ≡ true) → length w ≡ length (s .wire) → Sound S (received double-echo S s w d p k c)
     receive-keeps s sound w d p k c gd genuine told still-on as-long =
         received-sound s sound d gd p k c genuine enough s' at-d at-others refl w
-          (told s' (told-grown s sound d gd p k c genuine enough s' at-d at-others refl) (told-marked s sound d gd p k c genuine enough s' at-d at-others refl))
-          still-on as-long wire-is
+        (told s' (told-grown s sound d gd p k c genuine enough s' at-d at-others refl) (told-marked s sound d gd p k c genuine enough s' at-d at-others refl))
+        still-on as-long wire-is
       where
         s' : State C
         s' = received double-echo S s w d p k c
+
         here : s' .desk d ≡ receive S (s .desk d) p k c
         here = cond-true _ _ _ (eq-eqb d d refl)
+
         at-d : s' .desk d ≡ answered S (recorded (s .desk d) p k c) k c
         at-d = here ∙ receive-is s sound d gd p k c genuine
+
         at-others : (q : ℕ) → (q ≡ d → ⊥) → s' .desk q ≡ s .desk q
         at-others q ne = cond-false _ _ _ (ne-eqb q d ne)
+
         wire-is : s' .wire ≡ w ++ sends d (s .desk d) (s' .desk d)
         wire-is = ap (λ D. w ++ sends d (s .desk d) D) (sym here)
 
@@ -291,6 +300,7 @@ module _ {C : Type 0} (S : Setting C) (F : Valid S) where
       where
         s' : State C
         s' = record { desk = s .desk; offered = Some c; wire = s .wire ++ new (S .origin) init c ∷ [] }
+
         says' : (q : ℕ) (l : Kind) (x : C) → says S s q l ≡ Some x → says S s' q l ≡ Some x
         says' q init x e = at (eqb q (S .origin)) e
           where
@@ -299,10 +309,12 @@ module _ {C : Type 0} (S : Setting C) (F : Valid S) where
             at false h = h
         says' q echo x e = e
         says' q ready x e = e
+
         heard' : (d q : ℕ) (l : Kind) (x : C) → Heard s d q l x → Heard s' d q l x
         heard' d q init x h = h
         heard' d q echo x h = h
         heard' d q ready x h = h
+
         posted' : (q : ℕ) (l : Kind) → Correct S q → some (says S s' q l) ≡ true → on (by q l) (s' .wire) ≡ true
         posted' q init g h = on-append (by q init) (s .wire) _ (inr (at (eqb q (S .origin)) refl h))
           where
@@ -316,13 +328,14 @@ module _ {C : Type 0} (S : Setting C) (F : Valid S) where
     step-keeps s s' sound (offer c go none) = offer-keeps s sound c go none
     step-keeps s s' sound (take d i f gd l e) =
         receive-keeps s sound (set (s .wire) i (mark d f)) d (f .sender) (f .kind) (f .content) gd
-          (record { by-origin = at-origin (f .sender) (f .kind) (f .content) (told .said); said = λ g. told .said })
-          (λ t grown marked. all-set _ (s .wire) i (mark d f) (marked f refl refl refl told) (all-weaker _ _ grown (s .wire) (sound .frames)))
-          (λ q k o. on-set (by q k) (s .wire) i f (mark d f) l e refl o)
-          (length-set _ _ _)
+        (record { by-origin = at-origin (f .sender) (f .kind) (f .content) (told .said); said = λ g. told .said })
+        (λ t grown marked. all-set _ (s .wire) i (mark d f) (marked f refl refl refl told) (all-weaker _ _ grown (s .wire) (sound .frames)))
+        (λ q k o. on-set (by q k) (s .wire) i f (mark d f) l e refl o)
+        (length-set _ _ _)
       where
         told : Told S s f
         told = subst (Told S s) (sym e) (all-getD (Told S s) (s .wire) i f l (sound .frames))
+
         at-origin : (p : ℕ) (k : Kind) (c : C) → says S s p k ≡ Some c → k ≡ init → p ≡ S .origin
         at-origin p k c h ki = at (eqb p (S .origin)) refl (subst (λ y. says S s p y ≡ Some c) ki h)
           where
@@ -331,9 +344,9 @@ module _ {C : Type 0} (S : Setting C) (F : Valid S) where
             at false y z = some-not-none c z
     step-keeps s s' sound (feign d p k c gd l bad o) =
         receive-keeps s sound (s .wire) d p k c gd
-          (record { by-origin = o; said = λ g. clash-of _ bad (g .honest) })
-          (λ t grown marked. all-weaker _ _ grown (s .wire) (sound .frames))
-          (λ q k o. o) refl
+        (record { by-origin = o; said = λ g. clash-of _ bad (g .honest) })
+        (λ t grown marked. all-weaker _ _ grown (s .wire) (sound .frames))
+        (λ q k o. o) refl
 
     no-votes : (x : C) → votes S (λ q. None) x ≡ 0
     no-votes x = cnt-never (S .n)

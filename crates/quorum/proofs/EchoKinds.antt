@@ -19,4 +19,3 @@ pub eqk-refl : (k : Kind) → eqk k k ≡ true
 eqk-refl init = refl
 eqk-refl echo = refl
 eqk-refl ready = refl
-

@@ -39,6 +39,7 @@ module _ {C : Type 0} (S : Setting C) (F : Valid S) (enough : 3 * S .t < S .n) (
           let h : says S s (f .sender) (f .kind) ≡ Some (f .content) = a .said in
           let h2 : says S s p k ≡ Some (f .content) = rw (u, l) at h in
           some-yes _ (f .content) h2
+
       one-test : (a b : Bool) → (a ≡ true → b ≡ true) → (b ≡ true → a ≡ true) → a ≡ b
       one-test true true u v = refl
       one-test true false u v = sym (u refl)
@@ -50,15 +51,15 @@ module _ {C : Type 0} (S : Setting C) (F : Valid S) (enough : 3 * S .t < S .n) (
     heard-by-all : (e q : ℕ) (k : Kind) (x : C) → Correct S e → Correct S q → says S s q k ≡ Some x → Heard s e q k x
     heard-by-all e q k x ge gq h =
         pick (by q k) (λ f. Told S s f × ((d : ℕ) → Correct S d → f .taken d ≡ true)) (Heard s e q k x) (s .wire) (all-both _ _ (s .wire) (sound .frames) taken) (sound .posted q k gq (some-yes _ x h))
-          (λ f a y.
-            let p : f .sender ≡ q = eqb-true _ _ (and-parts _ _ y .0) in
-            let l : f .kind ≡ k = eqk-true _ _ (and-parts (eqb (f .sender) q) _ y .1) in
-            let g : Heard s e (f .sender) (f .kind) (f .content) = a .0 .heard e ge (a .1 e ge) in
-            let h1 : says S s (f .sender) (f .kind) ≡ Some (f .content) = a .0 .said in
-            let g2 : Heard s e q k (f .content) = rw (p, l) at g in
-            let h2 : says S s q k ≡ Some (f .content) = rw (p, l) at h1 in
-            let c : f .content ≡ x = some-inj _ _ (sym h2 ∙ h) in
-            subst (Heard s e q k) c g2)
+        (λ f a y.
+        let p : f .sender ≡ q = eqb-true _ _ (and-parts _ _ y .0) in
+        let l : f .kind ≡ k = eqk-true _ _ (and-parts (eqb (f .sender) q) _ y .1) in
+        let g : Heard s e (f .sender) (f .kind) (f .content) = a .0 .heard e ge (a .1 e ge) in
+        let h1 : says S s (f .sender) (f .kind) ≡ Some (f .content) = a .0 .said in
+        let g2 : Heard s e q k (f .content) = rw (p, l) at g in
+        let h2 : says S s q k ≡ Some (f .content) = rw (p, l) at h1 in
+        let c : f .content ≡ x = some-inj _ _ (sym h2 ∙ h) in
+        subst (Heard s e q k) c g2)
 
     -- where all sent READY x, all accepted x
     all-accept : (x : C) → Backed S s x → ((q : ℕ) → Correct S q → s .desk q .ready-sent ≡ Some x) → (e : ℕ) → Correct S e → s .desk e .accepted ≡ Some x
@@ -77,8 +78,10 @@ module _ {C : Type 0} (S : Setting C) (F : Valid S) (enough : 3 * S .t < S .n) (
       where
         b : Backed S s a
         b = accepted-backs S F s sound d a gd h
+
         many : S .t < among S (λ q. is S (s .desk q .ready-sent) a)
         many = omega (arith, F .few, sound .settled d gd .by-votes a h, votes-bound S F (s .desk d .readies) (λ q. s .desk q .ready-sent) a (λ q. sound .true-votes d gd .readies q a))
+
         all-ready : (q : ℕ) → Correct S q → s .desk q .ready-sent ≡ Some a
         all-ready q g =
             let heard : among S (λ p. is S (s .desk p .ready-sent) a) ≤ votes S (s .desk q .readies) a = votes-all S F (s .desk q .readies) (λ p. s .desk p .ready-sent) a (λ p gp r. heard-by-all q p ready a g gp r) in
@@ -89,13 +92,17 @@ module _ {C : Type 0} (S : Setting C) (F : Valid S) (enough : 3 * S .t < S .n) (
       where
         offered-says : says S s (S .origin) init ≡ Some a
         offered-says = rw (eq-eqb (S .origin) (S .origin) refl) h
+
         all-echo : (q : ℕ) → Correct S q → s .desk q .echo-sent ≡ Some a
         all-echo q g = let v = some-value _ (heard-by-all q (S .origin) init a g go offered-says) in
             v .1 ∙ sym (sound .from-origin q (v .0) g go (v .1)) ∙ h
+
         many : (q : ℕ) → Correct S q → S .n + S .t < 2 * votes S (s .desk q .echoes) a
         many q g = omega (arith, F .few, among-whole S (λ p. is S (s .desk p .echo-sent) a) (λ p g. some-is S F _ a (all-echo p g)), votes-all S F (s .desk q .echoes) (λ p. s .desk p .echo-sent) a (λ p gp r. heard-by-all q p echo a g gp r))
+
         b : Backed S s a
         b = echo-backs S F s sound (s .desk d) (sound .true-votes d gd) a (many d gd)
+
         all-ready : (q : ℕ) → Correct S q → s .desk q .ready-sent ≡ Some a
         all-ready q g = the-ready a b q g (sound .settled q g .echoed a (many q g))
 

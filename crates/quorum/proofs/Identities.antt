@@ -70,12 +70,13 @@ module _ {D K C : Type 0} where
         (λ p l e. subst (Q p) (sym (other-offer P H s o m p l c e (identity-sym o m p l e))) (h p l))
     action-keeps s s' (Network.take d i x g b e) h = by-identity (λ p l. Q p (view s' p l)) (x .origin) (x .number)
         (subst (Q (x .origin)) (sym (own-receive P H s _ (set (wire-of (x .origin) (x .number) (s .wire)) (rank T (s .wire) i) (mark d (x .frame))) (x .origin) (x .number) d _ _ _ (rank-set T (λ y. y .frame) (s .wire) i x _ b e yes' yes')))
-          (keeps (x .origin) _ _ (take d (rank T (s .wire) i) (x .frame) g (rank-below T (λ y. y .frame) (s .wire) i x b e yes') (rank-get T (λ y. y .frame) (s .wire) i x b e yes')) (h (x .origin) (x .number))))
+        (keeps (x .origin) _ _ (take d (rank T (s .wire) i) (x .frame) g (rank-below T (λ y. y .frame) (s .wire) i x b e yes') (rank-get T (λ y. y .frame) (s .wire) i x b e yes')) (h (x .origin) (x .number))))
         (λ p l f. let f' = identity-sym (x .origin) (x .number) p l f in
-          subst (Q p) (sym (other-receive P H s _ (x .origin) (x .number) p l d _ _ _ f f' (part-other (of p l) (λ y. y .frame) (s .wire) i x _ b e f' f'))) (h p l))
+        subst (Q p) (sym (other-receive P H s _ (x .origin) (x .number) p l d _ _ _ f f' (part-other (of p l) (λ y. y .frame) (s .wire) i x _ b e f' f'))) (h p l))
       where
         T : Named K C → Bool
         T = of (x .origin) (x .number)
+
         yes' : same-identity (x .origin) (x .number) (x .origin) (x .number) ≡ true
         yes' = same-refl (x .origin) (x .number)
     action-keeps s s' (Network.feign o m d p k c g b bad first) h = by-identity (λ q l. Q q (view s' q l)) o m

@@ -60,4 +60,3 @@ pub record Sample : Type 0 where
   pub at-1 : sampled .desk 1 .accepted ≡ Some 7
   pub at-2 : sampled .desk 2 .accepted ≡ Some 7
   pub frames : length (sampled .wire) ≡ 7
-

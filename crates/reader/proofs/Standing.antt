@@ -58,13 +58,13 @@ got-kind s p st c None h n e = let z : _≡_ {A = ℕ} 0 1 = cc in absurd (omega
 got-kind s p st c (Some k) h n e =
     ⊎-elim
     (λ (a : allows st k ≡ true).
-       ⊎-elim
-       (λ (l : length s < p + 1 + operand-bytes k).
-          let f = rw (a, lt-ltb (length s) (p + 1 + operand-bytes k) l) at e in let z : _≡_ {A = ℕ} 0 1 = cc in absurd (omega arith))
-       (λ (l : p + 1 + operand-bytes k ≤ length s).
-          let f = rw (a, le-ltb (length s) (p + 1 + operand-bytes k) l) at e in
-          record { what = k; inside = h; named = n; allowed = a; whole = l; is = cc })
-       (cases-lt (length s) (p + 1 + operand-bytes k)))
+    ⊎-elim
+    (λ (l : length s < p + 1 + operand-bytes k).
+    let f = rw (a, lt-ltb (length s) (p + 1 + operand-bytes k) l) at e in let z : _≡_ {A = ℕ} 0 1 = cc in absurd (omega arith))
+    (λ (l : p + 1 + operand-bytes k ≤ length s).
+    let f = rw (a, le-ltb (length s) (p + 1 + operand-bytes k) l) at e in
+    record { what = k; inside = h; named = n; allowed = a; whole = l; is = cc })
+    (cases-lt (length s) (p + 1 + operand-bytes k)))
     (λ (a : allows st k ≡ false). let f = rw a at e in let z : _≡_ {A = ℕ} 0 1 = cc in absurd (omega arith))
     (cases-bool (allows st k))
 
@@ -119,11 +119,11 @@ stands-kind s p st kind.Form b n a w =
       bytes =
           spells s 8 p (omega arith)
           ∙ (let numbers = at s (p + 1 + 1 + 1) (p + 1 + 2) (omega arith) in
-             let factor = at s (p + 1 + 1 + 1 + 1) (p + 1 + 3) (omega arith) in
-             let book = at s (p + 1 + 1 + 1 + 1 + 1) (p + 1 + 4) (omega arith) in
-             let x = high s (p + 1 + 1 + 1 + 1 + 1 + 1) (p + 1 + 5) b (omega arith) in
-             let y = low s (p + 1 + 1 + 1 + 1 + 1 + 1 + 1) (p + 1 + 5) b (omega arith) in
-             λ i. n i ∷ getD s (p + 1) 0 ∷ getD s (p + 1 + 1) 0 ∷ numbers i ∷ factor i ∷ book i ∷ x i ∷ y i ∷ []);
+          let factor = at s (p + 1 + 1 + 1 + 1) (p + 1 + 3) (omega arith) in
+          let book = at s (p + 1 + 1 + 1 + 1 + 1) (p + 1 + 4) (omega arith) in
+          let x = high s (p + 1 + 1 + 1 + 1 + 1 + 1) (p + 1 + 5) b (omega arith) in
+          let y = low s (p + 1 + 1 + 1 + 1 + 1 + 1 + 1) (p + 1 + 5) b (omega arith) in
+          λ i. n i ∷ getD s (p + 1) 0 ∷ getD s (p + 1 + 1) 0 ∷ numbers i ∷ factor i ∷ book i ∷ x i ∷ y i ∷ []);
     }
 stands-kind s p st kind.Opening b n a w =
     let fit : Fits w32 (four-at s (p + 1 + 2)) = record { fits = four-below s (p + 1 + 2) b } in
@@ -133,13 +133,13 @@ stands-kind s p st kind.Opening b n a w =
       bytes =
           spells s 7 p (omega arith)
           ∙ (let x = high s (p + 1) (p + 1) b refl in
-             let y = low s (p + 1 + 1) (p + 1) b refl in
-             let e0 = at s (p + 1 + 1 + 1) (p + 1 + 2) (omega arith) in
-             let e1 = at s (p + 1 + 1 + 1 + 1) (p + 1 + 2 + 1) (omega arith) in
-             let e2 = at s (p + 1 + 1 + 1 + 1 + 1) (p + 1 + 2 + 2) (omega arith) in
-             let e3 = at s (p + 1 + 1 + 1 + 1 + 1 + 1) (p + 1 + 2 + 2 + 1) (omega arith) in
-             let four = (λ i. e0 i ∷ e1 i ∷ e2 i ∷ e3 i ∷ []) ∙ four-listed s (p + 1 + 2) b ∙ ap four-bytes (sym (ofZ-toZ fit)) in
-             λ i. n i ∷ x i ∷ y i ∷ four i);
+          let y = low s (p + 1 + 1) (p + 1) b refl in
+          let e0 = at s (p + 1 + 1 + 1) (p + 1 + 2) (omega arith) in
+          let e1 = at s (p + 1 + 1 + 1 + 1) (p + 1 + 2 + 1) (omega arith) in
+          let e2 = at s (p + 1 + 1 + 1 + 1 + 1) (p + 1 + 2 + 2) (omega arith) in
+          let e3 = at s (p + 1 + 1 + 1 + 1 + 1 + 1) (p + 1 + 2 + 2 + 1) (omega arith) in
+          let four = (λ i. e0 i ∷ e1 i ∷ e2 i ∷ e3 i ∷ []) ∙ four-listed s (p + 1 + 2) b ∙ ap four-bytes (sym (ofZ-toZ fit)) in
+          λ i. n i ∷ x i ∷ y i ∷ four i);
     }
 stands-kind s p st kind.Open b n a w = record { allowed = a; fits = tt; bytes = spells s 1 p (omega arith) ∙ ap (λ x. x ∷ []) n }
 stands-kind s p st kind.Quiet b n a w = record { allowed = a; fits = tt; bytes = spells s 1 p (omega arith) ∙ ap (λ x. x ∷ []) n }
@@ -166,12 +166,12 @@ fault-kind s p st f None e = let u : fault.Unknown p ≡ f = cc in rw (sym u) re
 fault-kind s p st f (Some k) e =
     ⊎-elim
     (λ (a : allows st k ≡ true).
-       ⊎-elim
-       (λ (l : length s < p + 1 + operand-bytes k).
-          let g = rw (a, lt-ltb (length s) (p + 1 + operand-bytes k) l) at e in let u : fault.Short p ≡ f = cc in rw (sym u) refl)
-       (λ (l : p + 1 + operand-bytes k ≤ length s).
-          let g = rw (a, le-ltb (length s) (p + 1 + operand-bytes k) l) at e in let z : _≡_ {A = ℕ} 0 1 = cc in absurd (omega arith))
-       (cases-lt (length s) (p + 1 + operand-bytes k)))
+    ⊎-elim
+    (λ (l : length s < p + 1 + operand-bytes k).
+    let g = rw (a, lt-ltb (length s) (p + 1 + operand-bytes k) l) at e in let u : fault.Short p ≡ f = cc in rw (sym u) refl)
+    (λ (l : p + 1 + operand-bytes k ≤ length s).
+    let g = rw (a, le-ltb (length s) (p + 1 + operand-bytes k) l) at e in let z : _≡_ {A = ℕ} 0 1 = cc in absurd (omega arith))
+    (cases-lt (length s) (p + 1 + operand-bytes k)))
     (λ (a : allows st k ≡ false). let g = rw a at e in let u : fault.Stage p ≡ f = cc in rw (sym u) refl)
     (cases-bool (allows st k))
 
@@ -206,9 +206,9 @@ is-read s p st (Form f) h =
     let bits : two-at s (p + 1 + 5) ≡ f .parameters .faulty .bits = omega arith in
     reads-so s p st kind.Form (omega arith) (rw n refl) (h .allowed) (omega arith)
     ∙ (λ i. Ok (Some (Form (record {
-       parameters = record { desks = desks i; numbers = numbers i; faults = faults i; factor = factor i; faulty = record { bits = bits i } };
-       book = book i;
-     }))))
+      parameters = record { desks = desks i; numbers = numbers i; faults = faults i; factor = factor i; faulty = record { bits = bits i } };
+      book = book i;
+    }))))
 is-read s p st (Opening o) h =
     let bs = encode (Opening o) in
     let r = room s bs p (omega arith) (h .bytes) in
@@ -259,12 +259,12 @@ none-kind s p st None e = let z : _≡_ {A = ℕ} 0 1 = cc in omega arith
 none-kind s p st (Some k) e =
     ⊎-elim
     (λ (a : allows st k ≡ true).
-       ⊎-elim
-       (λ (l : length s < p + 1 + operand-bytes k).
-          let g = rw (a, lt-ltb (length s) (p + 1 + operand-bytes k) l) at e in let z : _≡_ {A = ℕ} 0 1 = cc in omega arith)
-       (λ (l : p + 1 + operand-bytes k ≤ length s).
-          let g = rw (a, le-ltb (length s) (p + 1 + operand-bytes k) l) at e in let z : _≡_ {A = ℕ} 0 1 = cc in omega arith)
-       (cases-lt (length s) (p + 1 + operand-bytes k)))
+    ⊎-elim
+    (λ (l : length s < p + 1 + operand-bytes k).
+    let g = rw (a, lt-ltb (length s) (p + 1 + operand-bytes k) l) at e in let z : _≡_ {A = ℕ} 0 1 = cc in omega arith)
+    (λ (l : p + 1 + operand-bytes k ≤ length s).
+    let g = rw (a, le-ltb (length s) (p + 1 + operand-bytes k) l) at e in let z : _≡_ {A = ℕ} 0 1 = cc in omega arith)
+    (cases-lt (length s) (p + 1 + operand-bytes k)))
     (λ (a : allows st k ≡ false). let g = rw a at e in let z : _≡_ {A = ℕ} 0 1 = cc in omega arith)
     (cases-bool (allows st k))
 

@@ -57,9 +57,9 @@ abbrev pub command-at : List ℕ → ℕ → Kind → Command
 command-at s p kind.Form =
     Form
     (record {
-       parameters = record { desks = getD s p 0; numbers = getD s (p + 2) 0; faults = getD s (p + 1) 0; factor = getD s (p + 3) 0; faulty = record { bits = two-at s (p + 5) } };
-       book = getD s (p + 4) 0;
-     })
+      parameters = record { desks = getD s p 0; numbers = getD s (p + 2) 0; faults = getD s (p + 1) 0; factor = getD s (p + 3) 0; faulty = record { bits = two-at s (p + 5) } };
+      book = getD s (p + 4) 0;
+    })
 command-at s p kind.Opening = Opening (record { figure = two-at s p; amount = toZ w32 (four-at s (p + 2)) })
 command-at s p kind.Open = Open
 command-at s p kind.Quiet = Quiet

@@ -35,9 +35,21 @@ impl ScriptFault {
     {
         let layer = Layer::Script;
         match self {
-            ScriptFault::Unknown(offset) => Refusal { number: 12, layer, place: offset },
-            ScriptFault::Stage(offset) => Refusal { number: 13, layer, place: offset },
-            ScriptFault::Short(offset) => Refusal { number: 14, layer, place: offset },
+            ScriptFault::Unknown(offset) => Refusal {
+                number: 12,
+                layer,
+                place: offset,
+            },
+            ScriptFault::Stage(offset) => Refusal {
+                number: 13,
+                layer,
+                place: offset,
+            },
+            ScriptFault::Short(offset) => Refusal {
+                number: 14,
+                layer,
+                place: offset,
+            },
             ScriptFault::Floor(fault) => fault.refusal(),
         }
     }

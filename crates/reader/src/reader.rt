@@ -38,7 +38,11 @@ impl Drop for Guard<'_> {
         if !self.whole {
             *self.position = self.start;
         }
-        let Guard { position: _, start: _, whole: _ } = self;
+        let Guard {
+            position: _,
+            start: _,
+            whole: _,
+        } = self;
     }
 }
 
@@ -47,7 +51,10 @@ impl<'a> Reader<'a> {
         ensures script { λ r. ⌜ r .script ≡ script .entry ⌝ }
         ensures position { λ r. ⌜ r .position ≡ 0 ⌝ }
     {
-        Reader { script, position: 0 }
+        Reader {
+            script,
+            position: 0,
+        }
     }
 
     pub fn position(&self) -> usize
@@ -68,7 +75,11 @@ impl<'a> Reader<'a> {
     {
         let script = self.script;
         let start = self.position;
-        let mut guard = Guard { position: &mut self.position, start, whole: false };
+        let mut guard = Guard {
+            position: &mut self.position,
+            start,
+            whole: false,
+        };
         let Some(letter) = byte(script, &mut *guard.position) else {
             return Ok(None);
         };
@@ -76,7 +87,9 @@ impl<'a> Reader<'a> {
         if !stage.allows(kind) {
             return Err(ScriptFault::Stage(start));
         }
-        let command = operands(kind, script, &mut *guard.position).ok_or(ScriptFault::Short(start))?;
+        let command = operands(kind, script, &mut *guard.position).ok_or(ScriptFault::Short(
+            start,
+        ))?;
         guard.whole = true;
         Ok(Some(command))
     }
@@ -123,7 +136,13 @@ fn forming(script: &[u8], position: &mut usize) -> Option<Command>
     let factor = byte(script, &mut *position)?;
     let book = byte(script, &mut *position)?;
     let faulty = DeskSet::new(be_u16(script, &mut *position)?);
-    let parameters = GroupParameters { desks, numbers, faults, factor, faulty };
+    let parameters = GroupParameters {
+        desks,
+        numbers,
+        faults,
+        factor,
+        faulty,
+    };
     Some(Command::Form(Forming { parameters, book }))
 }
 

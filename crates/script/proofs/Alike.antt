@@ -95,12 +95,14 @@ shown-of faulty f v d (suc n) own =
     turn : (t : Bool) → about d (cond t [] (f n)) ≡ cond t [] (cond (eqb n d) (v n) [])
     turn true = refl
     turn false = own d n
+
     here : n ≡ d → cond (ltb d n && not (has-desk faulty d)) (v d) [] ++ cond (has-desk faulty n) [] (cond (eqb n d) (v n) []) ≡ cond (ltb d (suc n) && not (has-desk faulty d)) (v d) []
     here e = rw (le-ltb d n (omega arith), lt-ltb d (suc n) (omega arith), eq-eqb n d e) (subst (λ x. cond (has-desk faulty n) [] (v n) ≡ cond (not (has-desk faulty x)) (v x) []) e (same (has-desk faulty n)))
       where
         same : (t : Bool) → cond t [] (v n) ≡ cond (not t) (v n) []
         same true = refl
         same false = refl
+
     there : (n ≡ d → ⊥) → cond (ltb d n && not (has-desk faulty d)) (v d) [] ++ cond (has-desk faulty n) [] (cond (eqb n d) (v n) []) ≡ cond (ltb d (suc n) && not (has-desk faulty d)) (v d) []
     there ne = rw (ne-eqb n d ne) (ap (λ z. cond (ltb d n && not (has-desk faulty d)) (v d) [] ++ z) (sym (nothing (has-desk faulty n))) ∙ append-nil _ ∙ ap (λ t. cond (t && not (has-desk faulty d)) (v d) []) (⊎-elim (λ (l : d < n). lt-ltb d n l ∙ sym (lt-ltb d (suc n) (omega arith))) (λ (l : n ≤ d). le-ltb d n l ∙ sym (le-ltb d (suc n) (omega arith))) (cases-lt d n)))
 
@@ -112,10 +114,10 @@ closing : (day : Day) (d : ℕ) → about d (close-lines day) ≡ cond (ltb d (d
 closing day d =
     about-append d (each (by-correct (day .faulty) (figure-lines (day .rules .width) (day .figures))) (day .desks)) (each (by-correct (day .faulty) (λ e. need-line e (day .needs (day .figures e)))) (day .desks))
     ∙ ap (λ z. z ++ about d (each (by-correct (day .faulty) (λ e. need-line e (day .needs (day .figures e)))) (day .desks)))
-        (shown-of (day .faulty) (figure-lines (day .rules .width) (day .figures)) (λ e. figure-lines (day .rules .width) (λ _. day .figures e) 0) d (day .desks)
-          (λ a e. each-own (λ x i. figure-line x i (getD (day .figures e) i (pos 0))) (λ i. figure-line 0 i (getD (day .figures e) i (pos 0))) a e (day .rules .width) (λ i. figure-own i (getD (day .figures e) i (pos 0)) a e)))
+    (shown-of (day .faulty) (figure-lines (day .rules .width) (day .figures)) (λ e. figure-lines (day .rules .width) (λ _. day .figures e) 0) d (day .desks)
+    (λ a e. each-own (λ x i. figure-line x i (getD (day .figures e) i (pos 0))) (λ i. figure-line 0 i (getD (day .figures e) i (pos 0))) a e (day .rules .width) (λ i. figure-own i (getD (day .figures e) i (pos 0)) a e)))
     ∙ ap (λ z. cond (ltb d (day .desks) && not (has-desk (day .faulty) d)) (figure-lines (day .rules .width) (λ _. day .figures d) 0) [] ++ z)
-        (shown-of (day .faulty) (λ e. need-line e (day .needs (day .figures e))) (λ e. need-line 0 (day .needs (day .figures e))) d (day .desks) (λ a e. need-own (day .needs (day .figures e)) a e))
+    (shown-of (day .faulty) (λ e. need-line e (day .needs (day .figures e))) (λ e. need-line 0 (day .needs (day .figures e))) d (day .desks) (λ a e. need-own (day .needs (day .figures e)) a e))
     ∙ by (ltb d (day .desks) && not (has-desk (day .faulty) d))
   where
     by : (t : Bool) → cond t (figure-lines (day .rules .width) (λ _. day .figures d) 0) [] ++ cond t (need-line 0 (day .needs (day .figures d))) [] ≡ cond t (own-lines day d) []
@@ -184,8 +186,8 @@ day-turn k memory s p day Open same rest = rest _ (Some (day-after day Open)) sa
 day-turn k memory s p day Quiet same rest = rest _ (Some day) same
 day-turn k memory s p day Close same rest =
     silent (close-lines day ++ lines-by k memory s (p + 1) (Some (day-after day Close))) (close-lines day)
-      (λ d. about-append d (close-lines day) (lines-by k memory s (p + 1) (Some (day-after day Close))) ∙ ap (λ z. about d (close-lines day) ++ z) (closed-silent k memory s (p + 1) (day-after day Close) d refl) ∙ append-nil _)
-      (closing-alike day same)
+    (λ d. about-append d (close-lines day) (lines-by k memory s (p + 1) (Some (day-after day Close))) ∙ ap (λ z. about d (close-lines day) ++ z) (closed-silent k memory s (p + 1) (day-after day Close) d refl) ∙ append-nil _)
+    (closing-alike day same)
 
 -- a newly formed floor: all figures are 0
 new-same : (rules : Rules) (needs : List ℤ → Option ℤ) (g : GroupParameters) → Same-figures (new-day rules needs g)

@@ -142,7 +142,7 @@ abbrev pub close-lines : Day → List Line
 close-lines d =
     (line.Closed true ∷ [])
     ++ (each (by-correct (d .faulty) (figure-lines (d .rules .width) (d .figures))) (d .desks)
-        ++ each (by-correct (d .faulty) (λ e. need-line e (d .needs (d .figures e)))) (d .desks))
+    ++ each (by-correct (d .faulty) (λ e. need-line e (d .needs (d .figures e)))) (d .desks))
 
 abbrev pub form-result : ℕ → Forming → Result BookKind ScriptFault
 form-result memory f = lifted (form-reply (f .parameters) (f .book) (lent memory (f .parameters)))

@@ -4,10 +4,10 @@ ghost use Rattle.std.specs.Of.Vec.{vec-items};
 ghost use Rattle.std.specs.Vec.{made};
 ghost use Rattle.book.specs.Calls.{rules-of};
 ghost use Rattle.script.specs.Days.{each, figure-line, figure-lines, need-line, by-correct};
+use crate::books::DayBook;
 use account::FigureLine;
 use account::Line;
 use account::NeedLine;
-use crate::books::DayBook;
 use book::Book;
 use desks::DeskSet;
 use std::alloc::AllocError;
@@ -17,13 +17,21 @@ fn note_figure(lines: &mut Vec<Line>, desk: u8, figure: u16, value: i64) -> Resu
     ensures { λ r. ⌜ made r (λ _. vec-items (now (lines .exit)) ≡ vec-items (now (lines .entry)) ++ figure-line desk figure value) ⌝ }
 {
     if value != 0 {
-        lines.push(Line::Figure(FigureLine { desk, figure, value }))?;
+        lines.push(Line::Figure(FigureLine {
+            desk,
+            figure,
+            value,
+        }))?;
     }
     Ok(())
 }
 
 // The lines of a desk's figures.
-fn figure_lines<'a, B: Book<'a>>(book: &B, desk: u8, lines: &mut Vec<Line>) -> Result<(), AllocError>
+fn figure_lines<'a, B: Book<'a>>(
+    book: &B,
+    desk: u8,
+    lines: &mut Vec<Line>,
+) -> Result<(), AllocError>
     ensures { λ r. ⌜ made r (λ _. vec-items (now (lines .exit)) ≡ vec-items (now (lines .entry)) ++ figure-lines (rules-of (B·Book .model) (now (book .entry)) .width) (B·Book .model .figures (now (book .entry))) desk) ⌝ }
 {
     for figure in 0..book.width() {
@@ -34,7 +42,11 @@ fn figure_lines<'a, B: Book<'a>>(book: &B, desk: u8, lines: &mut Vec<Line>) -> R
 }
 
 // The lines of the correct desks' figures.
-pub(crate) fn all_figures<'a, B: Book<'a>>(book: &B, faulty: DeskSet, lines: &mut Vec<Line>) -> Result<(), AllocError>
+pub(crate) fn all_figures<'a, B: Book<'a>>(
+    book: &B,
+    faulty: DeskSet,
+    lines: &mut Vec<Line>,
+) -> Result<(), AllocError>
     ensures { λ r. ⌜ made r (λ _. vec-items (now (lines .exit)) ≡ vec-items (now (lines .entry)) ++ each (by-correct (faulty .bits) (figure-lines (rules-of (B·Book .model) (now (book .entry)) .width) (B·Book .model .figures (now (book .entry))))) (B·Book .model .desks (now (book .entry)))) ⌝ }
 {
     for desk in 0..book.desks() {
@@ -56,7 +68,11 @@ fn note_need(lines: &mut Vec<Line>, desk: u8, need: Option<i64>) -> Result<(), A
 }
 
 // The lines of the correct desks' hedge needs.
-pub(crate) fn all_needs<'a, B: DayBook<'a>>(book: &B, faulty: DeskSet, lines: &mut Vec<Line>) -> Result<(), AllocError>
+pub(crate) fn all_needs<'a, B: DayBook<'a>>(
+    book: &B,
+    faulty: DeskSet,
+    lines: &mut Vec<Line>,
+) -> Result<(), AllocError>
     ensures { λ r. ⌜ made r (λ _. vec-items (now (lines .exit)) ≡ vec-items (now (lines .entry)) ++ each (by-correct (faulty .bits) (λ e. need-line e (B·DayBook .needs (B·Book .model .figures (now (book .entry)) e)))) (B·Book .model .desks (now (book .entry)))) ⌝ }
 {
     for desk in 0..book.desks() {

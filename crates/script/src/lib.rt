@@ -9,4 +9,3 @@ mod whole;
 
 pub use whole::account_text;
 pub use whole::run;
-

@@ -11,16 +11,16 @@ ghost use Rattle.book.specs.Calls.{form-tests};
 ghost use Rattle.account.specs.Text.{account};
 ghost use Rattle.script.specs.Alike.{Shown-alike};
 ghost use Rattle.script.specs.Days.{account-of, lines-from, new-day, script-memory};
-use account::print;
-use account::Line;
-use book::Book;
-use cash::Cash;
 use crate::books::CashDay;
 use crate::books::DayBook;
 use crate::books::PositionsDay;
 use crate::day::Day;
 use crate::form::form_first;
 use crate::play::play;
+use account::Line;
+use account::print;
+use book::Book;
+use cash::Cash;
 use desks::GroupParameters;
 use floor::BookKind;
 use positions::Positions;
@@ -30,13 +30,22 @@ use std::alloc::AllocError;
 use std::alloc::Global;
 
 // A floor just formed, and the rest of the script on it.
-fn serve<'a, B: DayBook<'a> + Drop>(parameters: GroupParameters, memory: &'a mut [u8], reader: &mut Reader<'_>, lines: &mut Vec<Line>) -> Result<(), AllocError>
+fn serve<'a, B: DayBook<'a> + Drop>(
+    parameters: GroupParameters,
+    memory: &'a mut [u8],
+    reader: &mut Reader<'_>,
+    lines: &mut Vec<Line>,
+) -> Result<(), AllocError>
     requires formable { ⌜ first (form-tests (B·Book .model) (parameters .desks) (length (now memory))) ≡ None ⌝ }
     requires within { ⌜ now reader .position ≤ length (now (now reader .script)) ⌝ }
     ensures { λ r. ⌜ made r (λ _. (room : ℕ) → vec-items (now (lines .exit)) ≡ vec-items (now (lines .entry)) ++ lines-from room (now (now (reader .entry) .script)) (now (reader .entry) .position) (Some (new-day (B·Book .model .rules (parameters .desks)) (B·DayBook .needs) parameters))) ⌝ }
 {
     let book = B::make(parameters.desks, memory);
-    let mut day = Day { book, faulty: parameters.faulty, stage: Stage::Set };
+    let mut day = Day {
+        book,
+        faulty: parameters.faulty,
+        stage: Stage::Set,
+    };
     play(&mut day, reader, lines)?;
     Ok(())
 }
@@ -52,7 +61,12 @@ pub fn run(heap: Global, script: &[u8], memory: &mut [u8]) -> Result<Vec<Line>, 
         return Ok(lines);
     };
     match formed.kind {
-        BookKind::Positions => serve::<Positions<'_>>(formed.parameters, memory, &mut reader, &mut lines)?,
+        BookKind::Positions => serve::<Positions<'_>>(
+            formed.parameters,
+            memory,
+            &mut reader,
+            &mut lines,
+        )?,
         BookKind::Cash => serve::<Cash<'_>>(formed.parameters, memory, &mut reader, &mut lines)?,
     }
     Ok(lines)

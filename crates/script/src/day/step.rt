@@ -9,11 +9,11 @@ ghost use Rattle.desks.specs.Firsts.{first};
 ghost use Rattle.book.specs.Calls.{opening-tests, rules-of};
 ghost use Rattle.script.specs.Days.{day-after, day-lines, opened, at-stage, close-lines, opening-reply, answer-line};
 ghost use Rattle.script.specs.Meaning.{day-of, Opens-day};
-use account::Line;
 use crate::books::DayBook;
 use crate::day::Day;
 use crate::figures::all_figures;
 use crate::figures::all_needs;
+use account::Line;
 use floor::BookInFloor;
 use floor::FloorFault;
 use reader::Command;
@@ -55,7 +55,12 @@ impl<'a, B: DayBook<'a>> Day<B> {
     }
 
     // One command, whose first byte is at that offset, and the lines that it prints.
-    pub(crate) fn step(&mut self, command: Command, offset: usize, lines: &mut Vec<Line>) -> Result<(), AllocError>
+    pub(crate) fn step(
+        &mut self,
+        command: Command,
+        offset: usize,
+        lines: &mut Vec<Line>,
+    ) -> Result<(), AllocError>
         ensures printed { λ r. ⌜ made r (λ _. vec-items (now (lines .exit)) ≡ vec-items (now (lines .entry)) ++ day-lines offset (day-of (B·Book .model) (B·DayBook .needs) (now (self .entry))) command) ⌝ }
         ensures after { λ r. ⌜ made r (λ _. day-of (B·Book .model) (B·DayBook .needs) (now (self .exit)) ≡ day-after (day-of (B·Book .model) (B·DayBook .needs) (now (self .entry))) command) ⌝ }
     {

@@ -42,9 +42,9 @@ returns-in-Break-check-bounds c =
     let e = unless-err (first (bounds (c .args .parameters))) _ _ (c .in-Break-check-bounds .ensures tt) in
     let r = unless-ok (first (ranges (c .args .parameters))) _ _ (c .in-Continue-check-ranges .ensures tt) .0 in
     let k : (not (eqb (c .args .book) 1) && not (eqb (c .args .book) 2)) ≡ false =
-        elim (c .match-book .came) [ in-1 w ↦ coded-1 (c .args .book) (w .in-1 .is) | in-2 w ↦ coded-2 (c .args .book) (w .in-2 .is) ] in
+    elim (c .match-book .came) [ in-1 w ↦ coded-1 (c .args .book) (w .in-1 .is) | in-2 w ↦ coded-2 (c .args .book) (w .in-2 .is) ] in
     p .1 ∙ ap (λ y. Err y) (p .2)
     ∙ replies (c .args .parameters) (c .args .book) (c .args .memory) _
-        (first-back (ranges (c .args .parameters)) (behind-ranges (c .args .parameters) (c .args .book) (c .args .memory)) r
-        ∙ ap (λ t. cond t (Some (Range BookCode)) (first (bounds (c .args .parameters) ++ memory-test (c .args .parameters) (c .args .book) (c .args .memory)))) k
-        ∙ first-front (bounds (c .args .parameters)) (memory-test (c .args .parameters) (c .args .book) (c .args .memory)) _ e)
+    (first-back (ranges (c .args .parameters)) (behind-ranges (c .args .parameters) (c .args .book) (c .args .memory)) r
+    ∙ ap (λ t. cond t (Some (Range BookCode)) (first (bounds (c .args .parameters) ++ memory-test (c .args .parameters) (c .args .book) (c .args .memory)))) k
+    ∙ first-front (bounds (c .args .parameters)) (memory-test (c .args .parameters) (c .args .book) (c .args .memory)) _ e)

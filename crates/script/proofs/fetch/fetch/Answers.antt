@@ -22,7 +22,7 @@ returns-in-Continue-push c =
     let n = c .in-Err .ensures tt in
     record {
       turn =
-        fetched-fault (now (r .script)) (r .position) (c .args .stage) (vec-items (c .args .lines .now)) (vec-items (c .push .last .self)) (c .in-Err .fault) (c .next .last .self .position) (c .pre) (n .answer)
+          fetched-fault (now (r .script)) (r .position) (c .args .stage) (vec-items (c .args .lines .now)) (vec-items (c .push .last .self)) (c .in-Err .fault) (c .next .last .self .position) (c .pre) (n .answer)
           (c .in-Continue-push .ensures tt .items
           ∙ ap (λ x. vec-items (c .args .lines .now) ++ (Refused x (c .position-offset .result) ∷ [])) (c .refusal .ensures)
           ∙ ap (λ x. vec-items (c .args .lines .now) ++ (Refused (script-refusal (c .in-Err .fault)) x ∷ [])) (c .position-offset .ensures));

@@ -18,11 +18,11 @@ pub loop-figure-again : need.loop-figure-again
 loop-figure-again g c =
     let f : SFits w64 (c .unwrap-or-value .result) = search needs in
     turn-by (vec-items (c .args .lines .now)) (vec-items (c .loop-figure .lines)) (vec-items (c .note-figure .last .lines)) _
-      (λ i. figure-line (c .args .desk) i (getD (g .B·Book .model .figures (c .args .book .now) (c .args .desk)) i (pos 0))) (c .loop-figure .figure)
-      (c .loop-figure .inv) (c .in-Continue-note-figure .ensures tt)
-      (ap (figure-line (c .args .desk) (c .loop-figure .figure))
-        (toZ-ofZ w64 (c .unwrap-or-value .result) f ∙ c .unwrap-or-value .ensures ∙ ap (λ r. valueOr r (pos 0)) (c .figure .ensures .value)
-        ∙ asked (g .B·Book .model) (c .args .book .now) (c .args .desk) (c .loop-figure .figure) (rw (c .width-figure-end .ensures) at (c .loop-figure-test .taken))))
+    (λ i. figure-line (c .args .desk) i (getD (g .B·Book .model .figures (c .args .book .now) (c .args .desk)) i (pos 0))) (c .loop-figure .figure)
+    (c .loop-figure .inv) (c .in-Continue-note-figure .ensures tt)
+    (ap (figure-line (c .args .desk) (c .loop-figure .figure))
+    (toZ-ofZ w64 (c .unwrap-or-value .result) f ∙ c .unwrap-or-value .ensures ∙ ap (λ r. valueOr r (pos 0)) (c .figure .ensures .value)
+    ∙ asked (g .B·Book .model) (c .args .book .now) (c .args .desk) (c .loop-figure .figure) (rw (c .width-figure-end .ensures) at (c .loop-figure-test .taken))))
 
 pub returns : need.returns
 returns g c =

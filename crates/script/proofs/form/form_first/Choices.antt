@@ -14,7 +14,7 @@ Inv-loop-command l =
     (now (l .reader .script) ≡ now (l .entry .reader .script))
     × (l .reader .position ≤ length (now (l .reader .script)))
     × (vec-items (l .lines) ++ lines-from (l .memory) (now (l .entry .reader .script)) (l .reader .position) None
-        ≡ vec-items (l .entry .lines) ++ lines-from (l .memory) (now (l .entry .reader .script)) (l .entry .reader .position) None)
+    ≡ vec-items (l .entry .lines) ++ lines-from (l .memory) (now (l .entry .reader .script)) (l .entry .reader .position) None)
 
 abbrev pub μ-loop-command : given.MeasureT-loop-command
 μ-loop-command l = length (now (l .entry .reader .script)) - l .reader .position

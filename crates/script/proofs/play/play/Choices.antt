@@ -15,8 +15,8 @@ Inv-loop-command g l =
     (now (l .reader .script) ≡ now (l .entry .reader .script))
     × (l .reader .position ≤ length (now (l .reader .script)))
     × ((memory : ℕ) →
-        vec-items (l .lines) ++ lines-from memory (now (l .entry .reader .script)) (l .reader .position) (Some (day-of (g .B·Book .model) (g .B·DayBook .needs) (l .day)))
-        ≡ vec-items (l .entry .lines) ++ lines-from memory (now (l .entry .reader .script)) (l .entry .reader .position) (Some (day-of (g .B·Book .model) (g .B·DayBook .needs) (l .entry .day))))
+    vec-items (l .lines) ++ lines-from memory (now (l .entry .reader .script)) (l .reader .position) (Some (day-of (g .B·Book .model) (g .B·DayBook .needs) (l .day)))
+    ≡ vec-items (l .entry .lines) ++ lines-from memory (now (l .entry .reader .script)) (l .entry .reader .position) (Some (day-of (g .B·Book .model) (g .B·DayBook .needs) (l .entry .day))))
 
 abbrev pub μ-loop-command : given.MeasureT-loop-command
 μ-loop-command g l = length (now (l .entry .reader .script)) - l .reader .position

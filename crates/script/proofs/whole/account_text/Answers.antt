@@ -26,7 +26,7 @@ pub returns : need.returns
 returns c =
     let size : length (now (c .as-mut-slice .result)) ≡ script-memory = c .as-mut-slice .ensures .len ∙ c .in-Continue-memory .ensures tt .made .1 in
     let lines : now (c .as-slice .result) ≡ account-of script-memory (c .args .script .now) =
-        c .as-slice .ensures .value ∙ c .in-Continue-lines .ensures tt ∙ ap (λ n. account-of n (c .args .script .now)) size in
+    c .as-slice .ensures .value ∙ c .in-Continue-lines .ensures tt ∙ ap (λ n. account-of n (c .args .script .now)) size in
     record {
       alike = shown-alike script-memory (c .args .script .now);
       text = made-weaker (c .print .result) _ _ (λ text e. e ∙ ap account lines) (c .print .ensures);

@@ -11,4 +11,4 @@ pub returns : need.returns
 returns g c = λ room.
     c .in-Continue-play .ensures tt room
     ∙ ap (λ d. vec-items (c .args .lines .now) ++ lines-from room (now (c .args .reader .now .script)) (c .args .reader .now .position) (Some d))
-        (fresh (g .B·Book .model) (g .B·DayBook .needs) (c .make-book .result) (c .args .parameters) (c .args .memory .now) (c .make-book .ensures))
+    (fresh (g .B·Book .model) (g .B·DayBook .needs) (c .make-book .result) (c .args .parameters) (c .args .memory .now) (c .make-book .ensures))

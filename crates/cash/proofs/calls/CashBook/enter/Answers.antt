@@ -31,7 +31,7 @@ use Rattle.cash.proofs.Enter.{kept, entered}
 well-formed : (c : need.After-add-2) → first (wrong-fields (c .args .self .now .ledger .desks) (c .args .origin) (c .args .item)) ≡ None
 well-formed c =
     subst (λ n. first (wrong-fields n (c .args .origin) (c .args .item)) ≡ None) (c .desks-desks .ensures)
-      (unless-ok (first (wrong-fields (c .desks-desks .result) (c .args .origin) (c .args .item))) _ _ (c .in-Ok .ensures tt) .0)
+    (unless-ok (first (wrong-fields (c .desks-desks .result) (c .args .origin) (c .args .item))) _ _ (c .in-Ok .ensures tt) .0)
 
 payment : (c : need.After-add-2) → c .in-Ok .payment ≡ payment-of (c .args .item)
 payment c = unless-ok (first (wrong-fields (c .desks-desks .result) (c .args .origin) (c .args .item))) _ _ (c .in-Ok .ensures tt) .1
@@ -63,18 +63,18 @@ negative z a e h =
 to-payee : (c : need.After-add-2) → Added (c .raise .last .self) (c .args .desk) (byte 1 (c .args .item)) (pos (quantity (c .args .item))) (c .add .result) (c .add .last .self)
 to-payee c =
     subst (λ y. Added (c .raise .last .self) (c .args .desk) y (pos (quantity (c .args .item))) (c .add .result) (c .add .last .self)) (ap (λ y. y .payee) (payment c))
-      (subst (λ y. Added (c .raise .last .self) (c .args .desk) (c .in-Ok .payment .payee) y (c .add .result) (c .add .last .self)) (amount c) (c .add .ensures))
+    (subst (λ y. Added (c .raise .last .self) (c .args .desk) (c .in-Ok .payment .payee) y (c .add .result) (c .add .last .self)) (amount c) (c .add .ensures))
 
 from-origin : (c : need.After-add-2) → Added (c .add .last .self) (c .args .desk) (c .args .origin) (negℤ (pos (quantity (c .args .item)))) (c .add-2 .result) (c .add-2 .last .self)
 from-origin c =
     let small : quantity (c .args .item) < 2 ^ 63 = subst (λ y. y < 2 ^ 63) (ap (λ y. y .amount) (payment c)) (search needs) in
     subst (λ y. Added (c .add .last .self) (c .args .desk) (c .args .origin) y (c .add-2 .result) (c .add-2 .last .self))
-      (negative (toZ w64 (c .in-Ok .payment .amount)) (quantity (c .args .item)) (amount c) small) (c .add-2 .ensures)
+    (negative (toZ w64 (c .in-Ok .payment .amount)) (quantity (c .args .item)) (amount c) small) (c .add-2 .ensures)
 
 pub ghost-self : need.ghost-self
 ghost-self c =
     kept (c .args .self .now) (c .args .desk) (c .args .origin) (c .args .item) _ _ _ _ _ _
-      (well-formed c) (known c) (origin-known c) (few c) (covered c) (c .raise .ensures) (to-payee c) (from-origin c)
+    (well-formed c) (known c) (origin-known c) (few c) (covered c) (c .raise .ensures) (to-payee c) (from-origin c)
 
 pub returns : need.returns
 returns c =
@@ -87,4 +87,4 @@ returns c =
     let v = covered a in
     let none : first (enter-tests cash-model b (c .args .desk) (c .args .origin) (c .args .item)) ≡ None = rw (d, o, w, v, k) refl in
     done _ _ _ _ none
-      (entered b (c .args .desk) (c .args .origin) (c .args .item) _ _ _ _ _ _ w (known a) (origin-known a) (few a) (covered a) (c .raise .ensures) (to-payee a) (from-origin a) _ refl)
+    (entered b (c .args .desk) (c .args .origin) (c .args .item) _ _ _ _ _ _ w (known a) (origin-known a) (few a) (covered a) (c .raise .ensures) (to-payee a) (from-origin a) _ refl)

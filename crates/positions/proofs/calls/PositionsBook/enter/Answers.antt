@@ -39,7 +39,7 @@ added c =
     let z = widened (c .in-Ok .trade .lots) f ∙ ap (λ y. y .lots) t in
     let i = c .figure .ensures ∙ ap figure-of t in
     subst (λ y. Added (c .raise .last .self) (c .args .desk) y (lots (c .args .item)) (c .add .result) (c .add .last .self)) i
-      (subst (λ y. Added (c .raise .last .self) (c .args .desk) (c .figure .result) y (c .add .result) (c .add .last .self)) z (c .add .ensures))
+    (subst (λ y. Added (c .raise .last .self) (c .args .desk) (c .figure .result) y (c .add .result) (c .add .last .self)) z (c .add .ensures))
 
 pub ghost-self : need.ghost-self
 ghost-self c = kept (c .args .self .now) (c .args .desk) (c .args .item) _ _ _ _ (well-formed c) (known c) (few c) (c .raise .ensures) (added c)

@@ -29,11 +29,14 @@ ghost-self c =
     let b = c .args .self .now in
     let p = c .set-all .ensures in
     let small : natAbs (toZ w64 (ofZ w64 (toZ w32 (ofZ w32 (c .args .amount))))) ≤ 10000 =
-      subst (λ z. natAbs z ≤ 10000) (sym (widened (c .args .amount) (c .fits .amount)))
-        (natAbs-between (c .args .amount) 9999 (rw (toZ-ofZ w32 (c .args .amount) (c .fits .amount)) at (c .if-amount-ltminus10000 .left)) (rw (toZ-ofZ w32 (c .args .amount) (c .fits .amount)) at (c .if-amount-gt10000 .left))) in
-    (p .shape .whole (b .whole),
-      ((rw (p .shape .desks) (b .sized .0), p .shape .width ∙ b .sized .1),
-      (counted-set-all most-items _ _ _ _ p (b .counted), (within-set-all 10000 10000 _ _ _ _ p small (b .within), tt))))
+    subst (λ z. natAbs z ≤ 10000) (sym (widened (c .args .amount) (c .fits .amount)))
+    (natAbs-between (c .args .amount) 9999 (rw (toZ-ofZ w32 (c .args .amount) (c .fits .amount)) at (c .if-amount-ltminus10000 .left)) (rw (toZ-ofZ w32 (c .args .amount) (c .fits .amount)) at (c .if-amount-gt10000 .left))) in (
+      p .shape .whole (b .whole),
+      (
+        (rw (p .shape .desks) (b .sized .0), p .shape .width ∙ b .sized .1),
+        (counted-set-all most-items _ _ _ _ p (b .counted), (within-set-all 10000 10000 _ _ _ _ p small (b .within), tt)),
+      ),
+    )
 
 pub returns : need.returns
 returns c =

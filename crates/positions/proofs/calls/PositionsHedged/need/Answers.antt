@@ -57,9 +57,10 @@ loop-figure-again c =
     let y = toZ w64 (ofZ w64 (c .figure-net .result)) in
     let z = toZ-ofZ w64 (c .loop-figure .net +ℤ y) (fits c) in
     let t = total-more (figures l (c .args .desk)) (c .loop-figure .figure) (omega (arith, n, c .loop-figure-test .taken)) in
-    subst (λ x. (toZ w64 (ofZ w64 (x +ℤ y)) ≡ total (take (c .loop-figure .figure + 1) (figures l (c .args .desk)))) × (natAbs (toZ w64 (ofZ w64 (x +ℤ y))) ≤ (c .loop-figure .figure + 1) * position-limit)) (sym (c .loop-figure .net-is))
-      (z ∙ ap (λ x. x +ℤ y) (net-is c) ∙ ap (λ x. total (take (c .loop-figure .figure) (figures l (c .args .desk))) +ℤ x) (added c) ∙ sym t,
-        subst (λ x. natAbs x ≤ (c .loop-figure .figure + 1) * position-limit) (sym z) (small c))
+    subst (λ x. (toZ w64 (ofZ w64 (x +ℤ y)) ≡ total (take (c .loop-figure .figure + 1) (figures l (c .args .desk)))) × (natAbs (toZ w64 (ofZ w64 (x +ℤ y))) ≤ (c .loop-figure .figure + 1) * position-limit)) (sym (c .loop-figure .net-is)) (
+      z ∙ ap (λ x. x +ℤ y) (net-is c) ∙ ap (λ x. total (take (c .loop-figure .figure) (figures l (c .args .desk))) +ℤ x) (added c) ∙ sym t,
+      subst (λ x. natAbs x ≤ (c .loop-figure .figure + 1) * position-limit) (sym z) (small c),
+    )
 
 negated : (z : ℤ) → pos 0 -ℤ z ≡ negℤ z
 negated z = +ℤ-idl (negℤ z)
@@ -83,5 +84,5 @@ returns c =
     let t : leb (l .desks) (c .args .desk) ≡ false = lt-leb (l .desks) (c .args .desk) d in
     let e : take (c .loop-figure .figure) (figures l (c .args .desk)) ≡ figures l (c .args .desk) = take-all (c .loop-figure .figure) (figures l (c .args .desk)) (omega (arith, n, c .loop-figure-test .left)) in
     let z : toZ w64 (ofZ w64 (pos 0 -ℤ c .loop-figure .net)) ≡ negℤ (total (figures l (c .args .desk))) =
-        toZ-ofZ w64 (pos 0 -ℤ c .loop-figure .net) (neg-fits c) ∙ negated (c .loop-figure .net) ∙ ap negℤ (sym (c .loop-figure .net-is) ∙ c .loop-figure .inv .0 ∙ ap total e) in
+    toZ-ofZ w64 (pos 0 -ℤ c .loop-figure .net) (neg-fits c) ∙ negated (c .loop-figure .net) ∙ ap negℤ (sym (c .loop-figure .net-is) ∙ c .loop-figure .inv .0 ∙ ap total e) in
     rw t (ap (λ y. Ok y) (subst (λ x. toZ w64 (ofZ w64 (pos 0 -ℤ x)) ≡ negℤ (total (figures l (c .args .desk)))) (sym (c .loop-figure .net-is)) z))

@@ -23,9 +23,10 @@ returns-in-Break-open g c =
     let d = c .args .self .now in
     let fits : SFits w32 (c .args .opening .amount) = search needs in
     let h =
-        refused-by (first (opening-tests (rules-of (g .B·Book .model) (d .book)) (c .args .opening .figure) (toZ w32 (ofZ w32 (c .args .opening .amount)))))
-          (d .book) (c .open .last .self) _ _ (c .in-Break-open .ensures tt) in
-    let e = sym (ap (λ z. first (opening-tests (rules-of (g .B·Book .model) (d .book)) (c .args .opening .figure) z)) (toZ-ofZ w32 (c .args .opening .amount) fits)) ∙ h .0 in
-    (p .1 ∙ ap (λ y. Err y) (p .2) ∙ sym (ap (λ o. unless (mapped Book o) tt) e),
+    refused-by (first (opening-tests (rules-of (g .B·Book .model) (d .book)) (c .args .opening .figure) (toZ w32 (ofZ w32 (c .args .opening .amount)))))
+    (d .book) (c .open .last .self) _ _ (c .in-Break-open .ensures tt) in
+    let e = sym (ap (λ z. first (opening-tests (rules-of (g .B·Book .model) (d .book)) (c .args .opening .figure) z)) (toZ-ofZ w32 (c .args .opening .amount) fits)) ∙ h .0 in (
+      p .1 ∙ ap (λ y. Err y) (p .2) ∙ sym (ap (λ o. unless (mapped Book o) tt) e),
       ap (λ b. day-of (g .B·Book .model) (g .B·DayBook .needs) (record { book = b; faulty = d .faulty; stage = d .stage })) (h .1)
-      ∙ sym (ap (opened (day-of (g .B·Book .model) (g .B·DayBook .needs) d) (c .args .opening)) e))
+          ∙ sym (ap (opened (day-of (g .B·Book .model) (g .B·DayBook .needs) d) (c .args .opening)) e),
+    )
