@@ -1,0 +1,5 @@
+pub mod Kinds
+pub mod Refusals
+pub mod Frames
+pub mod Readings
+pub mod Laws
