@@ -113,6 +113,7 @@ pub impl<'a> Hedged<'a> for Positions<'a> as PositionsHedged {
         for figure in 0..WIDTH {
             net += self.ledger.figure(desk, figure);
         }
-        Ok(-net)
+        let need = -net;
+        Ok(need)
     }
 }

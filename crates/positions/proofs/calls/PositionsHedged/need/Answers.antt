@@ -73,8 +73,8 @@ neg-fits c =
     let b = subst (λ y. natAbs y ≤ c .loop-figure .figure * position-limit) (c .loop-figure .net-is) (c .loop-figure .inv .1) in
     fits64 _ (128 * position-limit) (neg-small (c .loop-figure .net) (128 * position-limit) (omega (arith, b, c .loop-figure .kept .figure-end))) (omega arith)
 
-pub sub-result : need.sub-result
-sub-result c = subst (λ y. SFits w64 (pos 0 -ℤ y)) (sym (c .loop-figure .net-is)) (neg-fits c)
+pub sub-need : need.sub-need
+sub-need c = subst (λ y. SFits w64 (pos 0 -ℤ y)) (sym (c .loop-figure .net-is)) (neg-fits c)
 
 pub returns : need.returns
 returns c =
