@@ -1,4 +1,6 @@
 // What a book is: its faults, its meaning and laws, and the calls that every book answers.
+#![tactic(auto)]
+
 ghost use Rattle.std.specs.Prelude.{◌≡◌, ℕ, ◌≤◌, List, length, ℤ, neg_ℤ, IfOk, None, unsigned_abs};
 ghost use Rattle.desks.specs.Firsts.{first, unless};
 ghost use Rattle.book.specs.Model.{BookModel};

@@ -1,4 +1,6 @@
 // What a carrier is: its faults, its meaning and laws, and the calls that every carrier answers.
+#![tactic(auto)]
+
 ghost use Rattle.std.specs.Prelude.{◌≡◌, ℕ, ◌-◌, length, None};
 ghost use Rattle.carrier.specs.Model.{CarrierModel, bytes_reply, form_fault, check_reply, Made, Forms};
 ghost use Rattle.carrier.specs.Questions.{accepted_reply, accepted_as, frame_reply, frame_as};

@@ -1,3 +1,5 @@
 // Scripts, and the accounts that they must print.
+#![tactic(auto)]
+
 #[cfg(test)]
 mod tests;

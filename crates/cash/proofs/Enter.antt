@@ -81,17 +81,13 @@ module _ (b : Cash) (d o : ℕ) (x : List ℕ) (r s t : Bool) (l m n : Ledger)
   taken = added_fits m d o (neg_ℤ (pos (quantity x))) t n (1000000000 + 1000000 * count_at m d) u bound_taken (let c = few_paid d in omega arith)
 
   -- what a value of cash keeps
-  pub kept : Whole n × (((2 ≤ n.desks) × (n.width ≡ n.desks)) × (Counted most_items n × (Within 1000000000 1000000 n × Unit {0})))
+  pub kept : Whole n × ((2 ≤ n.desks) × (n.width ≡ n.desks)) × Counted most_items n × Within 1000000000 1000000 n
   kept =
       let ds : n.desks ≡ b.ledger.desks = taken.shape.desks ∙ paid.shape.desks ∙ p.shape.desks in (
         taken.shape.whole (paid.shape.whole whole),
-        (
-          (rw ds b.sized.0, taken.shape.width ∙ paid.shape.width ∙ p.shape.width ∙ b.sized.1 ∙ sym ds),
-          (
-            counted_set most_items m d _ _ t n taken few_paid,
-            (within_set 1000000000 1000000 m d _ _ t n taken bound_taken within_paid, tt),
-          ),
-        ),
+        (rw ds b.sized.0, taken.shape.width ∙ paid.shape.width ∙ p.shape.width ∙ b.sized.1 ∙ sym ds),
+        counted_set most_items m d _ _ t n taken few_paid,
+        within_set 1000000000 1000000 m d _ _ t n taken bound_taken within_paid,
       )
 
   figures_here : figures n d ≡ shifted (figures b.ledger d) (moves o x)

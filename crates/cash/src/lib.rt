@@ -1,4 +1,6 @@
 // The book of cash: a balance for each desk, moved by payments.
+#![tactic(auto)]
+
 ghost use Rattle.std.specs.Prelude.{◌≡◌, ℕ, pos};
 ghost use Rattle.book.specs.Rules.{Laws};
 ghost use Rattle.cash.specs.Cash.{cash, balance_limit};

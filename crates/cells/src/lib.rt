@@ -1,4 +1,6 @@
 // Lent bytes cut into cells of equal width: cell i is the `width` bytes from i * width on, there if it ends within the bytes.
+#![tactic(auto)]
+
 ghost use Rattle.std.specs.Prelude.{◌≡◌, length, replicate};
 ghost use Rattle.cells.specs.Cell.{start_of, cell, behind, Put, Cleared};
 

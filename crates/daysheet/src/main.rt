@@ -1,4 +1,6 @@
 // Reads a script from standard input and writes its account to standard output.
+#![tactic(auto)]
+
 use script::account_text;
 use std::io;
 use std::io::{Read, Write};

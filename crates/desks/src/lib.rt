@@ -1,4 +1,6 @@
 // What every layer shares: sets of desks, the parameters of a group, and what a refusal says.
+#![tactic(auto)]
+
 mod faults;
 mod group;
 mod set;

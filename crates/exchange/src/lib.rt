@@ -1,4 +1,6 @@
 // A carrier over a broadcast protocol: theory alone.
+#![tactic(auto)]
+
 ghost use Rattle.std.specs.Prelude.{◌≡◌};
 ghost use Rattle.exchange.specs.Broadcast.{Broadcast};
 

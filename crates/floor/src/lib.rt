@@ -1,4 +1,6 @@
 // The floor's faults, and the check of forming.
+#![tactic(auto)]
+
 mod faults;
 mod forming;
 

@@ -1,15 +1,15 @@
 -- The bounds of a ledger are kept: by making it, by an opening within its range, and by a step for each item counted.
-use Rattle.std.proofs.Common.{◌≡◌, ℕ, ◌+◌, ◌*◌, ◌<◌, ◌≤◌, Bool, true, false, cond, ◌&&◌, eqb, List, ℤ, pos, nat_abs, sym, refl, ap, ◌∙◌, subst, ⊎_elim, mul-le-mul_left, arith, Bor}
+use Rattle.std.proofs.Common.{◌≡◌, ℕ, ◌+◌, ◌*◌, ◌<◌, ◌≤◌, Bool, true, false, cond, ◌&&◌, eqb, List, ℤ, pos, nat_abs, sym, refl, ap, ◌∙◌, subst, ⊎_elim, mul-le-mul_left, arith, MutBor}
 use Rattle.std.proofs.lemmas.Bool.{cond_both, cases_Bool, eqb-true, and_parts}
 use Rattle.ledger.specs.declared.Ledger.{Ledger}
 use Rattle.ledger.specs.Figures.{figure_at, count_at, reaches}
 use Rattle.ledger.specs.Changes.{Made, Set, SetAll, Raised}
 use Rattle.ledger.specs.Bounds.{Within, Counted}
 
-pub within_made : (a b n w : ℕ) (m : Bor (List ℕ)) (l : Ledger) → Made n w m l → Within a b l
+pub within_made : (a b n w : ℕ) (m : MutBor (List ℕ)) (l : Ledger) → Made n w m l → Within a b l
 within_made a b n w m l p = λ d i. let e = p.figures d i in subst (λ z. nat_abs z ≤ a + b * count_at l d) (sym e) (omega arith)
 
-pub counted_made : (most n w : ℕ) (m : Bor (List ℕ)) (l : Ledger) → Made n w m l → Counted most l
+pub counted_made : (most n w : ℕ) (m : MutBor (List ℕ)) (l : Ledger) → Made n w m l → Counted most l
 counted_made most n w m l p = λ d. let e = p.counts d in omega arith
 
 -- a value that keeps the bound, written at some places

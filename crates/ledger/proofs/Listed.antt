@@ -1,5 +1,5 @@
 -- The figures of a desk as a list: its length, its places, and what each change of the ledger makes of it.
-use Rattle.std.proofs.Common.{◌≡◌, ℕ, ◌<◌, ◌≤◌, Bool, true, false, cond, ◌&&◌, eqb, ltb, List, [], map, length, get_or, set, replicate, ℤ, pos, sym, refl, ap, ◌∙◌, ⊎_elim, arith, Bor}
+use Rattle.std.proofs.Common.{◌≡◌, ℕ, ◌<◌, ◌≤◌, Bool, true, false, cond, ◌&&◌, eqb, ltb, List, [], map, length, get_or, set, replicate, ℤ, pos, sym, refl, ap, ◌∙◌, ⊎_elim, arith, MutBor}
 use Rattle.std.proofs.lemmas.List.FromFn.{length-map-range_with_len, get_or-map-range_with_len}
 use Rattle.std.proofs.lemmas.List.{length-set, length-replicate, get_or-replicate, get_or_past, get_or-set_same, get_or-set_other, ext_get_or}
 use Rattle.std.proofs.lemmas.Bool.{cases_eq, cases_lt, lt-ltb, le-ltb, eqb-true, eq-eqb, ne_eqb, and_right, cond-true, cond-false}
@@ -53,7 +53,7 @@ figures_same l l' d p q f = ⊎_elim in_desks past_desks (cases_lt d l.desks) wh
   in_desks h = figures_are l' d (figures l d) (omega arith) (length_figures l d h ∙ sym q) (λ i k. f i ∙ sym (get_or_figures l d i))
 
 -- the lists of a new ledger
-pub figures_made : (n w : ℕ) (m : Bor (List ℕ)) (l : Ledger) → Made n w m l → (d : ℕ) → d < n → figures l d ≡ replicate w (pos 0)
+pub figures_made : (n w : ℕ) (m : MutBor (List ℕ)) (l : Ledger) → Made n w m l → (d : ℕ) → d < n → figures l d ≡ replicate w (pos 0)
 figures_made n w m l p d h =
     let q = p.desks in
     let u = p.width in

@@ -1,4 +1,6 @@
 // The figures and counts of a group of desks, over lent memory: figure i of desk d is a signed number, high byte first, in the cell of eight bytes at d * width + i.
+#![tactic(auto)]
+
 ghost use Rattle.std.specs.Prelude.{◌≡◌};
 ghost use Rattle.ledger.specs.Figures.{value_of, place_of, figure_at, count_at};
 ghost use Rattle.ledger.specs.Changes.{Made, Set, SetAll, Raised, Added};

@@ -1,12 +1,12 @@
 -- A log as it is made, and what each change of a log leaves.
 use Rattle.std.specs.Prelude.{◌≡◌, ℕ, ◌+◌, ◌-◌, Bool, false, cond, List, [], ◌∷◌, ◌++◌, length, nat_lt, slice_set}
-use Rattle.std.specs.Borrow.{Bor}
+use Rattle.std.specs.Borrow.{MutBor}
 use Rattle.lent_log.specs.declared.Log.{Log}
 use Rattle.lent_log.specs.Entries.{entries_of, size_of, room_of}
 
 module _ {T : Type 0} where
   -- a new log over the places p
-  pub record Made (p : Bor (List T)) (l : Log T) : Type 0 where
+  pub record Made (p : MutBor (List T)) (l : Log T) : Type 0 where
     pub empty : entries_of l ≡ []
     pub start : l.len ≡ 0
     pub room : room_of l ≡ length p.now

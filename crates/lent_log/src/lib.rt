@@ -1,4 +1,6 @@
 // A list over lent places: the first `len` of them are in use, and it grows only at its end.
+#![tactic(auto)]
+
 ghost use Rattle.std.specs.Prelude.{◌≡◌, ◌≤◌, [], length, ◌==◌};
 ghost use Rattle.lent_log.specs.Entries.{entries_of, size_of, room_of, entry_at};
 ghost use Rattle.lent_log.specs.Changes.{Made, Pushed, Replaced};

@@ -51,16 +51,12 @@ module _ (b : Positions) (d : ℕ) (x : List ℕ) (r r' : Bool) (l l' : Ledger)
   made = added_fits l d (target x) (lots x) r' l' (10000 + 10000 * count_at l d) q bound (let m = few d in omega arith)
 
   -- what a value of positions keeps
-  pub kept : Whole l' × (((2 ≤ l'.desks) × (l'.width ≡ 128)) × (Counted most_items l' × (Within 10000 10000 l' × Unit {0})))
+  pub kept : Whole l' × ((2 ≤ l'.desks) × (l'.width ≡ 128)) × Counted most_items l' × Within 10000 10000 l'
   kept = (
     made.shape.whole (p.shape.whole b.whole),
-    (
-      (rw (made.shape.desks, p.shape.desks) b.sized.0, made.shape.width ∙ p.shape.width ∙ b.sized.1),
-      (
-        counted_set most_items l d _ _ r' l' made few,
-        (within_set 10000 10000 l d _ _ r' l' made bound (within_raised 10000 10000 b.ledger d r l p b.within), tt),
-      ),
-    ),
+    (rw (made.shape.desks, p.shape.desks) b.sized.0, made.shape.width ∙ p.shape.width ∙ b.sized.1),
+    counted_set most_items l d _ _ r' l' made few,
+    within_set 10000 10000 l d _ _ r' l' made bound (within_raised 10000 10000 b.ledger d r l p b.within),
   )
 
   pub figures_here : figures l' d ≡ shifted (figures b.ledger d) (at_place (target x) (lots x))

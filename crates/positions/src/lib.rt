@@ -1,4 +1,6 @@
 // The book of positions: lots filled and hedged, by instrument.
+#![tactic(auto)]
+
 ghost use Rattle.std.specs.Prelude.{◌≡◌, ℕ, pos};
 ghost use Rattle.book.specs.Rules.{Laws};
 ghost use Rattle.positions.specs.Netted.{NetLimitParts};

@@ -1,6 +1,5 @@
 -- What the two broadcasts share: who is faulty, the frames of one identity on the wire, and options. Assumes nothing.
 use Rattle.std.specs.Prelude.{◌≡◌, ℕ, zero, suc, ◌+◌, ◌*◌, ◌<◌, ◌≤◌, Bool, true, false, cond, not, ◌&&◌, ◌||◌, List, [], ◌∷◌, ◌++◌, Some, None, Option, ◌==◌}
-pub use Rattle.std.specs.Option.{is_some as some}
 use Rattle.std.specs.List.{AllByRecursion as All}
 use Rattle.desks.specs.Sets.{one, how_many}
 
@@ -30,18 +29,20 @@ among S h = how_many (λ q. not (S.faulty q) && h q) S.n
 abbrev pub faults : {C : Type 0} → Setting C → ℕ
 faults S = how_many S.faulty S.n
 
--- it is something, and passes a test
-abbrev pub holds : {C : Type 0} → (C → Bool) → Option C → Bool
-holds T (Some x) = T x
-holds T None = false
+-- there is something
+abbrev pub some : {A : Type 0} → Option A → Bool
+some (Some x) = true
+some None = false
 
 -- it is c
 abbrev pub is : {C : Type 0} → Setting C → Option C → C → Bool
-is S o c = holds (λ x. S.same x c) o
+is S (Some x) c = S.same x c
+is S None c = false
 
 -- it is something other than c
 abbrev pub other : {C : Type 0} → Setting C → Option C → C → Bool
-other S o c = holds (λ x. not (S.same x c)) o
+other S (Some x) c = not (S.same x c)
+other S None c = false
 
 -- what was there stays; where nothing was, c comes if b
 abbrev pub settle : {C : Type 0} → Option C → Bool → C → Option C

@@ -1,4 +1,6 @@
 // What quorums of votes show of a reliable broadcast: theory alone, for any contents.
+#![tactic(auto)]
+
 ghost use Rattle.std.specs.Prelude.{◌≡◌};
 ghost use Rattle.quorum.specs.DoubleEcho.{double_echo, Desk, Kind};
 ghost use Rattle.quorum.specs.Network.{LawfulEverywhere, BoundedEverywhere};

@@ -1,4 +1,6 @@
 // The commands of a script, and the reader that takes them from its bytes.
+#![tactic(auto)]
+
 mod command;
 mod faults;
 mod reader;

@@ -1,4 +1,6 @@
 // A whole script: its commands on one floor, and the account that it prints.
+#![tactic(auto)]
+
 mod books;
 mod day;
 mod fetch;

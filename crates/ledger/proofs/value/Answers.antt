@@ -7,6 +7,6 @@ use Rattle.ledger.proofs.value.Goals as goal
 
 pub returns : goal.returns
 returns c =
-    to_z-of_z w64 c.from-be-bytes.result (record { sfits = c.from-be-bytes.type-inv })
-    ∙ c.from-be-bytes.ensures
+    to_z-of_z w64 c.from_be_bytes.result (record { sfits = c.from_be_bytes.type_inv })
+    ∙ c.from_be_bytes.ensures
     ∙ read c.args.bytes.now (omega (arith, ltb-true, ltb-false))

@@ -12,5 +12,5 @@ returns c =
     let f = c.in-Some.from in
     let s = started (there a c.args.i) f (c.args.i * a.width) c.in-Some.ensures in
     let l : length c.args.x.now ≡ a.width = omega arith in
-    let p = put_mid-paste f (f + a.width - f) a.bytes.now c.copy-from-slice.new.self c.args.x.now a.width c.copy-from-slice.ensures.after (omega arith) (omega arith) in
+    let p = put_mid-paste f (f + a.width - f) a.bytes.now c.copy_from_slice.new.self c.args.x.now a.width c.copy_from_slice.ensures.after (omega arith) (omega arith) in
     written a _ c.args.i c.args.x.now s.0 l refl refl (p ∙ ap (λ n. paste a.bytes.now n c.args.x.now a.width) s.1)

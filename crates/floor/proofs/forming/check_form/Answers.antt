@@ -23,17 +23,17 @@ coded_2 b e = rw e refl
 replies : (g : GroupParameters) (code memory : ℕ) (f : FormFault) → first (form_tests g code memory) ≡ Some f → Err (Form f) ≡ form_reply g code memory
 replies g code memory f e = sym (ap (λ o. unless (option_map Form o) (kind_of code)) e)
 
-pub returns-in-err-check-ranges : goal.returns-in-err-check-ranges
-returns-in-err-check-ranges c =
-    let p = err_from_is_err_and c.from-residual.result c.from-residual.ensures.1 in
-    let e = unless_err (first (ranges c.args.parameters)) _ _ c.in-err-check-ranges.ensures in
+pub returns-in_err-check_ranges : goal.returns-in_err-check_ranges
+returns-in_err-check_ranges c =
+    let p = err_from_is_err_and c.from_residual.result c.from_residual.ensures.1 in
+    let e = unless_err (first (ranges c.args.parameters)) _ _ c.in_err-check_ranges.ensures in
     p.1 ∙ ap (λ y. Err y) p.2 ∙ replies c.args.parameters c.args.book c.args.memory _ (first_front (ranges c.args.parameters) (behind_ranges c.args.parameters c.args.book c.args.memory) _ e)
 
-pub returns-in-err-check-bounds : goal.returns-in-err-check-bounds
-returns-in-err-check-bounds c =
-    let p = err_from_is_err_and c.from-residual-in-err-check-bounds.result c.from-residual-in-err-check-bounds.ensures.1 in
-    let e = unless_err (first (bounds c.args.parameters)) _ _ c.in-err-check-bounds.ensures in
-    let r = (unless_ok (first (ranges c.args.parameters)) _ _ c.in-ok-check-ranges.ensures).0 in
+pub returns-in_err-check_bounds : goal.returns-in_err-check_bounds
+returns-in_err-check_bounds c =
+    let p = err_from_is_err_and c.from_residual-in_err-check_bounds.result c.from_residual-in_err-check_bounds.ensures.1 in
+    let e = unless_err (first (bounds c.args.parameters)) _ _ c.in_err-check_bounds.ensures in
+    let r = (unless_ok (first (ranges c.args.parameters)) _ _ c.in_ok-check_ranges.ensures).0 in
     let k : (not (eqb c.args.book 1) && not (eqb c.args.book 2)) ≡ false =
     elim c.match-book.branch [ in-1 w ↦ coded_1 c.args.book w.in-1.is | in-2 w ↦ coded_2 c.args.book w.in-2.is ] in
     p.1 ∙ ap (λ y. Err y) p.2

@@ -11,7 +11,7 @@ returns c =
     let f = c.args.frame in
     let out = c.args.out.now in
     let x = c.content-content.result.now in
-    let y = c.copy-from-slice.new.self in
+    let y = c.copy_from_slice.new.self in
     let l : length x ≡ length (frame_content f) = ap length c.content-content.ensures in
     let t : ltb (length out) (needed_by f) ≡ false = le-ltb (length out) (needed_by f) (omega arith) in
     record {

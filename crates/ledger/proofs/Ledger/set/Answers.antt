@@ -14,8 +14,8 @@ returns-in-Some c =
     let d = c.args.desk in
     let i = c.args.figure in
     let v = c.args.value in
-    let x = c.to-be-bytes.result in
+    let x = c.to_be_bytes.result in
     let s = started (known l d i) c.in-Some.place (d * l.width + i) c.in-Some.ensures in
-    let e : x ≡ digits_of (of_z w64 v) = c.to-be-bytes.ensures ∙ ap (λ z. digits_of (of_z w64 z)) (to_z-of_z w64 v c.ranges.value) in
+    let e : x ≡ digits_of (of_z w64 v) = c.to_be_bytes.ensures ∙ ap (λ z. digits_of (of_z w64 z)) (to_z-of_z w64 v c.ranges.value) in
     let P : ℕ → Type 0 = λ n. Put l.cells n x c.put.result c.put.new.self in
     set_there l c.put.new.self d i v x c.put.result s.0 (ap length e) (written v x c.ranges.value e) (subst P s.1 c.put.ensures)

@@ -13,14 +13,14 @@ returns-in-Ok c =
       script = n.script;
     }
 
-pub returns-in-ok-push : goal.returns-in-ok-push
-returns-in-ok-push c =
+pub returns-in_ok-push-in-Err : goal.returns-in_ok-push-in-Err
+returns-in_ok-push-in-Err c =
     let r = c.args.reader.now in
     let n = c.in-Err.ensures in
     record {
       turn =
           fetched_fault r.script.now r.position c.args.stage (vec_items c.args.lines.now) (vec_items c.push.new.self) c.in-Err.fault c.next.new.self.position c.requires n.answer
-          (c.in-ok-push.ensures.items
+          (c.in_ok-push-in-Err.ensures.items
           ∙ ap (λ x. vec_items c.args.lines.now ++ (Refused x c.position-offset.result ∷ [])) c.refusal.ensures
           ∙ ap (λ x. vec_items c.args.lines.now ++ (Refused (script_refusal c.in-Err.fault) x ∷ [])) c.position-offset.ensures);
       script = n.script;

@@ -9,10 +9,10 @@ pub loop-command-preserved : goal.loop-command-preserved
 loop-command-preserved g c =
     let r = c.loop-command.reader in
     let d = day_of g.B.Book.model g.B.DayBook.needs c.loop-command.day in
-    let n = c.in-ok-command.ensures in
+    let n = c.in_ok-command.ensures in
     let f = subst (λ o. Fetches r.script.now r.position c.loop-command.day.stage (vec_items c.loop-command.lines) o c.fetch.new.reader.position (vec_items c.fetch.new.lines)) c.in-Some.is n.turn in
     let s : c.fetch.new.reader.script.now ≡ r.script.now = ap (λ x. x.now) n.script in
-    let a = c.in-ok-step.ensures in (
+    let a = c.in_ok-step.ensures in (
       s ∙ c.loop-command.invariant.0,
       rw s f.within,
       λ memory.

@@ -5,23 +5,23 @@ use Rattle.script.specs.Days.{account_of, script_memory}
 use Rattle.script.proofs.Alike.{shown_alike}
 use Rattle.script.proofs.whole.account_text.Goals as goal
 
-pub returns-in-err-memory : goal.returns-in-err-memory
-returns-in-err-memory c = record {
+pub returns-in_err-memory : goal.returns-in_err-memory
+returns-in_err-memory c = record {
   alike = shown_alike script_memory c.args.script.now;
-  text = IfOk-from_err c.from-residual.result _ c.from-residual.ensures.0;
+  text = IfOk-from_err c.from_residual.result _ c.from_residual.ensures.0;
 }
 
-pub returns-in-err-lines : goal.returns-in-err-lines
-returns-in-err-lines c = record {
+pub returns-in_err-lines : goal.returns-in_err-lines
+returns-in_err-lines c = record {
   alike = shown_alike script_memory c.args.script.now;
-  text = IfOk-from_err c.from-residual-in-err-lines.result _ c.from-residual-in-err-lines.ensures.0;
+  text = IfOk-from_err c.from_residual-in_err-lines.result _ c.from_residual-in_err-lines.ensures.0;
 }
 
 pub returns : goal.returns
 returns c =
-    let size : length c.as-mut-slice.result.now ≡ script_memory = c.as-mut-slice.ensures.len ∙ c.in-ok-memory.ensures.len in
-    let lines : c.as-slice.result.now ≡ account_of script_memory c.args.script.now =
-    c.as-slice.ensures.value ∙ c.in-ok-lines.ensures ∙ ap (λ n. account_of n c.args.script.now) size in
+    let size : length c.as_mut_slice.result.now ≡ script_memory = c.as_mut_slice.ensures.len ∙ c.in_ok-memory.ensures.len in
+    let lines : c.as_slice.result.now ≡ account_of script_memory c.args.script.now =
+    c.as_slice.ensures.value ∙ c.in_ok-lines.ensures ∙ ap (λ n. account_of n c.args.script.now) size in
     record {
       alike = shown_alike script_memory c.args.script.now;
       text = IfOk-weaker c.print.result _ _ (λ text e. e ∙ ap account lines) c.print.ensures;

@@ -27,13 +27,13 @@ payment : (c : goal.After-add-2) → c.in-Ok.payment ≡ payment_of c.args.item
 payment c = (unless_ok (first (wrong_fields c.desks-desks.result c.args.origin c.args.item)) _ _ c.in-Ok.ensures).1
 
 known : (c : goal.After-add-2) → c.args.desk < c.args.self.now.ledger.desks
-known c = leb-false c.args.self.now.ledger.desks c.args.desk (rw c.desks-desks.ensures at (passed _ _ c.in-ok-check-desk.ensures))
+known c = leb-false c.args.self.now.ledger.desks c.args.desk (rw c.desks-desks.ensures at (passed _ _ c.in_ok-check_desk.ensures))
 
 origin_known : (c : goal.After-add-2) → c.args.origin < c.args.self.now.ledger.desks
-origin_known c = leb-false c.args.self.now.ledger.desks c.args.origin (rw c.desks-desks.ensures at (passed _ _ c.in-ok-check-desk-2.ensures))
+origin_known c = leb-false c.args.self.now.ledger.desks c.args.origin (rw c.desks-desks.ensures at (passed _ _ c.in_ok-check_desk-2.ensures))
 
 few : (c : goal.After-add-2) → count_at c.args.self.now.ledger c.args.desk < most_items
-few c = rw c.count.ensures at c.if-count-ge-MOST-ITEMS.false
+few c = rw c.count.ensures at c.if-count-ge-MOST_ITEMS.false
 
 covered : (c : goal.After-add-2) → le_z (pos (quantity c.args.item)) (get_or (figures c.args.self.now.ledger c.args.desk) c.args.origin (pos 0)) ≡ true
 covered c =
@@ -61,10 +61,11 @@ from_origin c =
     subst (λ y. Added c.add.new.self c.args.desk c.args.origin y c.add-2.result c.add-2.new.self)
     (negative (to_z w64 c.in-Ok.payment.amount) (quantity c.args.item) (amount c) small) c.add-2.ensures
 
-pub invariant-of-self : goal.invariant-of-self
-invariant-of-self c =
-    kept c.args.self.now c.args.desk c.args.origin c.args.item _ _ _ _ _ _
-    (well_formed c) (known c) (origin_known c) (few c) (covered c) c.raise.ensures (to_payee c) (from_origin c)
+pub invariant_of-self : goal.invariant_of-self
+invariant_of-self c =
+    let k = kept c.args.self.now c.args.desk c.args.origin c.args.item _ _ _ _ _ _
+    (well_formed c) (known c) (origin_known c) (few c) (covered c) c.raise.ensures (to_payee c) (from_origin c) in
+    record { whole = k.0; sized = k.1; counted = k.2; within = k.3 }
 
 pub returns : goal.returns
 returns c =

@@ -18,10 +18,10 @@ well_formed : (c : goal.After-add) → first (wrong_fields c.args.item) ≡ None
 well_formed c = (unless_ok (first (wrong_fields c.args.item)) _ _ c.in-Ok.ensures).0
 
 known : (c : goal.After-add) → c.args.desk < c.args.self.now.ledger.desks
-known c = leb-false c.args.self.now.ledger.desks c.args.desk (rw c.desks-desks.ensures at (passed _ _ c.in-ok-check-desk.ensures))
+known c = leb-false c.args.self.now.ledger.desks c.args.desk (rw c.desks-desks.ensures at (passed _ _ c.in_ok-check_desk.ensures))
 
 few : (c : goal.After-add) → count_at c.args.self.now.ledger c.args.desk < most_items
-few c = rw c.count.ensures at c.if-count-ge-MOST-ITEMS.false
+few c = rw c.count.ensures at c.if-count-ge-MOST_ITEMS.false
 
 added : (c : goal.After-add) → Added c.raise.new.self c.args.desk (target c.args.item) (lots c.args.item) c.add.result c.add.new.self
 added c =
@@ -32,8 +32,10 @@ added c =
     subst (λ y. Added c.raise.new.self c.args.desk y (lots c.args.item) c.add.result c.add.new.self) i
     (subst (λ y. Added c.raise.new.self c.args.desk c.figure.result y c.add.result c.add.new.self) z c.add.ensures)
 
-pub invariant-of-self : goal.invariant-of-self
-invariant-of-self c = kept c.args.self.now c.args.desk c.args.item _ _ _ _ (well_formed c) (known c) (few c) c.raise.ensures (added c)
+pub invariant_of-self : goal.invariant_of-self
+invariant_of-self c =
+    let k = kept c.args.self.now c.args.desk c.args.item _ _ _ _ (well_formed c) (known c) (few c) c.raise.ensures (added c) in
+    record { whole = k.0; sized = k.1; counted = k.2; within = k.3 }
 
 pub returns : goal.returns
 returns c =
@@ -41,7 +43,7 @@ returns c =
     let a = (goal.at.returns c).After-add in
     let w = well_formed a in
     let d : leb b.ledger.desks c.args.desk ≡ false = lt-leb b.ledger.desks c.args.desk (known a) in
-    let o : leb b.ledger.desks c.args.origin ≡ false = rw c.desks-desks.ensures at (passed _ _ c.in-ok-check-desk-2.ensures) in
+    let o : leb b.ledger.desks c.args.origin ≡ false = rw c.desks-desks.ensures at (passed _ _ c.in_ok-check_desk-2.ensures) in
     let k : leb most_items (count_at b.ledger c.args.desk) ≡ false = lt-leb most_items (count_at b.ledger c.args.desk) (few a) in
     let none : first (enter_tests positions_model b c.args.desk c.args.origin c.args.item) ≡ None = rw (d, o, w, k) refl in
     done _ _ _ _ none (entered b c.args.desk c.args.item _ _ _ _ w (known a) (few a) c.raise.ensures (added a) c.args.origin _ refl)

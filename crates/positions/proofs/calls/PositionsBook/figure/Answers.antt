@@ -13,7 +13,7 @@ returns c =
     let b = c.args.self.now in
     let fits : SFits w64 c.figure.result = search rules in
     let z = to_z-of_z w64 c.figure.result fits ∙ c.figure.ensures ∙ sym (get_or_figures b.ledger c.args.desk c.args.figure) in
-    let d : leb c.desks.result c.args.desk ≡ false = passed _ _ c.in-ok-check-desk.ensures in
+    let d : leb c.desks.result c.args.desk ≡ false = passed _ _ c.in_ok-check_desk.ensures in
     let d' : leb b.ledger.desks c.args.desk ≡ false = rw c.desks.ensures at d in
     let i : leb 128 c.args.figure ≡ false = lt-leb 128 c.args.figure c.if-figure-ge-WIDTH.false in
     record {

@@ -5,14 +5,19 @@ use Rattle.ledger.proofs.Listed.{figures_made}
 use Rattle.ledger.proofs.Bounds.{within_made, counted_made}
 use Rattle.positions.proofs.calls.PositionsBook.make.Goals as goal
 
-pub invariant-of-result : goal.invariant-of-result
-invariant-of-result c =
+pub invariant_of-result : goal.invariant_of-result
+invariant_of-result c =
     let m = c.new.ensures in
     let few : c.args.desks ≤ 16 = grind (arith, nat_tests, c.requires) in
     let some : 2 ≤ c.args.desks = grind (arith, nat_tests, c.requires) in
     let room : c.args.desks * 1024 ≤ length c.args.memory.now = grind (arith, nat_tests, c.requires) in
     let room' : c.args.desks * 128 * 8 ≤ length c.args.memory.now = omega arith in
-    (m.whole few room', ((rw m.desks some, m.width), (counted_made most_items _ _ _ _ m, (within_made 10000 10000 _ _ _ _ m, tt))))
+    record {
+      whole = m.whole few room';
+      sized = (rw m.desks some, m.width);
+      counted = counted_made most_items _ _ _ _ m;
+      within = within_made 10000 10000 _ _ _ _ m;
+    }
 
 pub returns : goal.returns
 returns c =

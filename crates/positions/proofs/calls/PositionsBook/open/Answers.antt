@@ -14,24 +14,24 @@ use Rattle.book.proofs.Orders.{nat_abs_between, widened}
 use Rattle.positions.specs.Positions.{positions}
 use Rattle.positions.proofs.calls.PositionsBook.open.Goals as goal
 
-pub invariant-of-self : goal.invariant-of-self
-invariant-of-self c =
+pub invariant_of-self : goal.invariant_of-self
+invariant_of-self c =
     let b = c.args.self.now in
-    let p = c.set-all.ensures in
+    let p = c.set_all.ensures in
     let small : nat_abs (to_z w64 (of_z w64 (to_z w32 (of_z w32 c.args.amount)))) ≤ 10000 =
     subst (λ z. nat_abs z ≤ 10000) (sym (widened c.args.amount c.ranges.amount))
-    (nat_abs_between c.args.amount 9999 (rw (to_z-of_z w32 c.args.amount c.ranges.amount) at c.if-amount-ltminus10000.false) (rw (to_z-of_z w32 c.args.amount c.ranges.amount) at c.if-amount-gt10000.false)) in (
-      p.shape.whole b.whole,
-      (
-        (rw p.shape.desks b.sized.0, p.shape.width ∙ b.sized.1),
-        (counted_set_all most_items _ _ _ _ p b.counted, (within_set_all 10000 10000 _ _ _ _ p small b.within, tt)),
-      ),
-    )
+    (nat_abs_between c.args.amount 9999 (rw (to_z-of_z w32 c.args.amount c.ranges.amount) at c.if-amount-ltminus10000.false) (rw (to_z-of_z w32 c.args.amount c.ranges.amount) at c.if-amount-gt10000.false)) in
+    record {
+      whole = p.shape.whole b.whole;
+      sized = (rw p.shape.desks b.sized.0, p.shape.width ∙ b.sized.1);
+      counted = counted_set_all most_items _ _ _ _ p b.counted;
+      within = within_set_all 10000 10000 _ _ _ _ p small b.within;
+    }
 
 pub returns : goal.returns
 returns c =
     let b = c.args.self.now in
-    let p = c.set-all.ensures in
+    let p = c.set_all.ensures in
     let z = widened c.args.amount c.ranges.amount in
     let n = to_z-of_z w32 c.args.amount c.ranges.amount in
     let i : leb 64 c.args.figure ≡ false = lt-leb 64 c.args.figure c.if-figure-ge64.false in
@@ -41,7 +41,7 @@ returns c =
     done _ _ _ _ none (record {
       desks = p.shape.desks;
       figures = λ d. figures_set_all _ _ _ _ p b.whole d ∙ ap (set (figures b.ledger d) c.args.figure) z;
-      count = λ d. same_count b.ledger c.set-all.new.self d p.counts p.shape.desks;
+      count = λ d. same_count b.ledger c.set_all.new.self d p.counts p.shape.desks;
       memory = p.shape.size;
-      behind = same_behind b.ledger c.set-all.new.self (b.ledger.desks * 1024) p.shape (ap (λ y. b.ledger.desks * y * 8) b.sized.1 ∙ omega arith);
+      behind = same_behind b.ledger c.set_all.new.self (b.ledger.desks * 1024) p.shape (ap (λ y. b.ledger.desks * y * 8) b.sized.1 ∙ omega arith);
     })

@@ -7,8 +7,8 @@ use Rattle.reader.specs.Readings.{Bytes}
 use Rattle.reader.proofs.Standing.{reads_what_stands, what_stands_is_read, moves_inside, fault_stays}
 use Rattle.reader.proofs.reader.Reader.next.Goals as goal
 
-pub returns-in-default : goal.returns-in-default
-returns-in-default c =
+pub returns-in_default : goal.returns-in_default
+returns-in_default c =
     let s = c.args.self.now.script.now in
     let p = c.args.self.now.position in
     let st = c.args.stage in
@@ -26,13 +26,13 @@ returns-in-default c =
       fault = fault_stays s p st r after a q;
     }
 
-pub returns-in-err-kind : goal.returns-in-err-kind
-returns-in-err-kind c =
+pub returns-in_err-kind : goal.returns-in_err-kind
+returns-in_err-kind c =
     let s = c.args.self.now.script.now in
     let p = c.args.self.now.position in
     let st = c.args.stage in
-    let r : Result (Option Command) ScriptFault = c.from-residual.result in
-    let after = c.drop-guard-in-err-kind.new.self.0 in
+    let r : Result (Option Command) ScriptFault = c.from_residual.result in
+    let after = c.drop-guard-in_err-kind.new.self.0 in
     let b : Bytes s = c.in-Some.ensures.bytes refl in
     let a : r ≡ read s p st = search rules in
     let q : after ≡ position_after p r = search rules in
@@ -66,13 +66,13 @@ returns-then-not-allows c =
       fault = fault_stays s p st r after a q;
     }
 
-pub returns-in-err-command : goal.returns-in-err-command
-returns-in-err-command c =
+pub returns-in_err-command : goal.returns-in_err-command
+returns-in_err-command c =
     let s = c.args.self.now.script.now in
     let p = c.args.self.now.position in
     let st = c.args.stage in
-    let r : Result (Option Command) ScriptFault = c.from-residual-in-err-command.result in
-    let after = c.drop-guard-in-err-command.new.self.0 in
+    let r : Result (Option Command) ScriptFault = c.from_residual-in_err-command.result in
+    let after = c.drop-guard-in_err-command.new.self.0 in
     let b : Bytes s = c.in-Some.ensures.bytes refl in
     let a : r ≡ read s p st = search rules in
     let q : after ≡ position_after p r = search rules in
@@ -91,7 +91,7 @@ returns c =
     let s = c.args.self.now.script.now in
     let p = c.args.self.now.position in
     let st = c.args.stage in
-    let r : Result (Option Command) ScriptFault = Ok (Some c.in-ok-command.command) in
+    let r : Result (Option Command) ScriptFault = Ok (Some c.in_ok-command.command) in
     let after = c.drop-guard-2.new.self.0 in
     let b : Bytes s = c.in-Some.ensures.bytes refl in
     let a : r ≡ read s p st = search rules in

@@ -6,12 +6,12 @@ use Rattle.wire.proofs.sent.Sent.new.Goals as goal
 pub returns : goal.returns
 returns c =
     let x = c.args.content.now in
-    let e : c.copy-from-slice.new.self ≡ x = c.copy-from-slice.ensures.after in
+    let e : c.copy_from_slice.new.self ≡ x = c.copy_from_slice.ensures.after in
     λ i. record {
       sender = c.args.sender;
       kind = c.args.kind;
       origin = c.args.origin;
       number = c.args.number;
-      content = (take_at c.copy-from-slice.new.self (drop (length x) (replicate 24 0)) (length x) (ap length e) ∙ e) i;
+      content = (take_at c.copy_from_slice.new.self (drop (length x) (replicate 24 0)) (length x) (ap length e) ∙ e) i;
       taken = λ q. untaken c.new.result c.new.ensures q i;
     }
