@@ -1,10 +1,9 @@
 -- The decimal text of a number writes it, and no other text does.
-use Rattle.std.proofs.Common.{◌≡◌, ℕ, suc, ◌^◌, ◌<◌, ◌≤◌, List, [], ◌∷◌, length, get_or, ℤ, pos, negsuc, decimal, sym, refl, ap, ◌∙◌, ⊎_elim, arith, rules}
+use Rattle.std.proofs.Common.{◌≡◌, ℕ, suc, ◌^◌, ◌<◌, ◌≤◌, List, ◌∷◌, length, get_or, pos, negsuc, decimal, sym, refl, ap, ◌∙◌, ⊎_elim, arith, rules}
 use Rattle.std.proofs.lemmas.Str.Parse.{IsNumeralModel, numerals_by_fold}
 use Rattle.std.proofs.lemmas.Fmt.{decimal_digit, decimal_nonempty, first_decimal, digits_decimal, digits_value-decimal, decimal-digits_value}
 use Rattle.std.proofs.lemmas.Bool.{cases_lt}
-use Rattle.account.specs.Text.{number}
-use Rattle.account.specs.Numbers.{Digits, value_on, Writes, WritesNumber, InRange, NumbersAreWritten}
+use Rattle.account.specs.Numbers.{Digits, value_on, Writes, NumbersAreWritten}
 
 own : IsNumeralModel Digits (value_on 0)
 own = numerals_by_fold _ (search rules) value_on (search rules)

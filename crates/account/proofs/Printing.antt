@@ -1,8 +1,8 @@
 -- The text of lines: a layer's letter is one byte, and lines are written one after another.
-use Rattle.std.proofs.Common.{◌≡◌, ℕ, ◌+◌, ◌<◌, ◌≤◌, List, [], ◌∷◌, ◌++◌, length, get_or, take, sym, refl, ap, ◌∙◌, arith}
+use Rattle.std.proofs.Common.{◌≡◌, ℕ, ◌+◌, ◌<◌, List, [], ◌∷◌, ◌++◌, length, get_or, take, sym, refl, ap, ◌∙◌, arith}
 use lib.Utf8.{encode}
 use Rattle.std.proofs.lemmas.Str.{encode_ascii}
-use Rattle.std.proofs.lemmas.List.{take_more, take_all, append_assoc, append-nil}
+use Rattle.std.proofs.lemmas.List.{take_more, append_assoc, append-nil}
 use Rattle.desks.specs.declared.faults.Layer.{Layer}
 use Rattle.desks.specs.declared.faults.Layer.TheVariants.{Frame, Carrier, Book, Floor, Script}
 use Rattle.desks.specs.Refusals.{letter_of}

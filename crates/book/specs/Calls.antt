@@ -1,5 +1,5 @@
 -- What each call of a book answers and changes, for every input. Assumes nothing.
-use Rattle.std.specs.Prelude.{◌≡◌, ℕ, ◌+◌, ◌<◌, ◌≤◌, Bool, not, ◌||◌, ◌≢◌, List, [], ◌∷◌, length, drop, replicate, ℤ, pos, is_some, Some, None, Ok, Err, Option, Result, int_lt, nat_le, nat_lt, slice_index_or, slice_set}
+use Rattle.std.specs.Prelude.{◌≡◌, ℕ, ◌+◌, ◌<◌, Bool, not, ◌||◌, ◌≢◌, List, [], ◌∷◌, length, drop, replicate, ℤ, pos, is_some, Some, None, Ok, Err, Option, Result, int_lt, nat_le, nat_lt, slice_index_or, slice_set}
 use Rattle.std.specs.Option.{unwrap_or}
 use Rattle.desks.specs.declared.faults.Parameter.TheVariants.{Desks}
 use Rattle.desks.specs.declared.faults.FormFault.TheVariants.{Range, Memory}

@@ -1,5 +1,4 @@
 -- The number, layer and place of each fault of a book. Assumes nothing.
-use Rattle.std.specs.Prelude.{ℕ}
 use Rattle.desks.specs.declared.faults.Layer.TheVariants.{Book}
 use Rattle.desks.specs.declared.faults.Refusal.{Refusal}
 use Rattle.desks.specs.Refusals.{form_refusal}

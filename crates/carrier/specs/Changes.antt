@@ -1,11 +1,10 @@
 -- What a call of a carrier may change, whatever the carrier. Assumes nothing.
-use Rattle.std.specs.Prelude.{◌≡◌, ℕ, ◌+◌, ◌≤◌, Bool, true, false, ◌≢◌, ◌⊎◌, List, [], ◌∷◌, ◌++◌, length, set, replicate, Some, None, Ok, Err, Option, Result, slice_set}
-use Rattle.std.specs.List.{slice_get, AllByRecursion as All}
+use Rattle.std.specs.Prelude.{◌≡◌, ℕ, ◌+◌, ◌≤◌, Bool, true, false, ◌≢◌, ◌⊎◌, List, [], ◌∷◌, ◌++◌, length, Some, None, Ok, Err, Result, slice_set}
+use Rattle.std.specs.List.{slice_get, AllByRecursion}
 use Rattle.desks.specs.declared.group.Group.{Group}
 use Rattle.desks.specs.Firsts.{first}
 use Rattle.frame.specs.declared.kinds.Kind.TheVariants.{Init}
 use Rattle.frame.specs.declared.kinds.Kinds.{Kinds}
-use Rattle.frame.specs.Frames.{Saying}
 use Rattle.frame.specs.Readings.{said}
 use Rattle.wire.specs.Posted.{Posted, marked, new_frame}
 use Rattle.carrier.specs.declared.faults.CarrierFault.{CarrierFault}
@@ -39,7 +38,7 @@ pub record Adds (before after : List Posted) (d o k : ℕ) (c : Content) (sent :
   pub count : length frames ≡ sent
   pub few : sent ≤ 2
   pub whole : after ≡ before ++ frames
-  pub fresh : All (Fresh d o k c) frames
+  pub fresh : AllByRecursion (Fresh d o k c) frames
 
 -- what the desks accepted is as it was
 abbrev pub AcceptsNothing : Meaning → Meaning → Type 0

@@ -1,5 +1,5 @@
 -- What every carrier declines, in order: the first test that holds decides. Assumes nothing.
-use Rattle.std.specs.Prelude.{ℕ, ◌+◌, Bool, not, ◌||◌, List, [], ◌∷◌, ◌++◌, length, Option, Result, ◌==◌, nat_le, nat_lt}
+use Rattle.std.specs.Prelude.{ℕ, ◌+◌, Bool, not, List, [], ◌∷◌, ◌++◌, length, ◌==◌, nat_le, nat_lt}
 use Rattle.desks.specs.declared.group.Group.{Group}
 use Rattle.desks.specs.declared.faults.Parameter.TheVariants.{Desks, Numbers}
 use Rattle.desks.specs.declared.faults.FormFault.{FormFault}
@@ -8,9 +8,7 @@ use Rattle.desks.specs.Firsts.{Tests, lifted}
 use Rattle.desks.specs.Forming.{outside, ranges, bounds, parameters_under}
 use Rattle.desks.specs.Sizes.{item_size}
 use Rattle.frame.specs.declared.kinds.Kinds.{Kinds}
-use Rattle.frame.specs.declared.faults.FrameFault.{FrameFault}
 use Rattle.frame.specs.declared.faults.FrameFault.TheVariants.{Length, Origin, Number}
-use Rattle.frame.specs.Kinds.{known_to}
 use Rattle.frame.specs.Readings.{frame_tests}
 use Rattle.carrier.specs.declared.faults.CarrierFault.{CarrierFault}
 use Rattle.carrier.specs.declared.faults.CarrierFault.TheVariants.{Form, Desk, Frame, Faulty, CorrectPeer, NoNumber, NoRoom, NoFrame}

@@ -1,5 +1,5 @@
 -- What a carrier means: its group, the frames on its wire, what each desk accepted and what each offered. Assumes nothing.
-use Rattle.std.specs.Prelude.{◌≡◌, ℕ, ◌*◌, ◌<◌, ◌≤◌, Bool, true, false, List, Option}
+use Rattle.std.specs.Prelude.{◌≡◌, ℕ, ◌*◌, ◌<◌, ◌≤◌, Bool, false, List, Option}
 use Rattle.desks.specs.declared.group.Group.{Group}
 use Rattle.desks.specs.Sets.{has_desk, how_many}
 use Rattle.wire.specs.Posted.{Posted}

@@ -1,5 +1,5 @@
 -- All that a carrier means: its size, what each of its values means, its exact steps, and what it shows of them. Assumes nothing.
-use Rattle.std.specs.Prelude.{◌≡◌, ℕ, ◌+◌, ◌*◌, ◌≤◌, Bool, List, length, replicate, Some, None, Ok, Err, Option, Result}
+use Rattle.std.specs.Prelude.{◌≡◌, ℕ, List, length, replicate, None, Ok, Err, Option, Result}
 use Rattle.desks.specs.declared.group.Group.{Group}
 use Rattle.desks.specs.Firsts.{first, lifted, unless}
 use Rattle.desks.specs.declared.faults.FormFault.{FormFault}

@@ -1,18 +1,16 @@
 -- The sum of a desk's balances, and the last that a balance pays.
-use Rattle.std.proofs.Common.{◌≡◌, ℕ, ◌+◌, ◌<◌, ◌≤◌, Bool, true, false, cond, not, ◌&&◌, ◌||◌, eqb, ltb, leb, List, length, get_or, ℤ, pos, ◌+ℤ◌, neg_ℤ, is_some, Some, None, sym, refl, ap, ◌∙◌, subst, arith}
+use Rattle.std.proofs.Common.{◌≡◌, ℕ, ◌<◌, not, List, length, ℤ, pos, ◌+ℤ◌, neg_ℤ, is_some, None, ap, ◌∙◌, arith}
 use lib.IntN.{+ℤ_idr, +ℤ_invr}
-use lib.Signed.{le_z}
-use Rattle.std.proofs.lemmas.Bool.{and_parts, and_from, le-leb, lt-leb}
+use Rattle.std.proofs.lemmas.Bool.{and_parts, le-leb, lt-leb}
 use Rattle.std.proofs.lemmas.Bool.Decides.{nat_tests}
 use Rattle.desks.specs.Firsts.{first}
-use Rattle.desks.specs.Forming.{outside}
-use Rattle.book.specs.Items.{byte, quantity, padded}
-use Rattle.book.specs.Rules.{Fit, shifted, total, at_place}
+use Rattle.book.specs.Items.{byte, quantity}
+use Rattle.book.specs.Rules.{total, at_place}
 use Rattle.book.proofs.Shifts.{total_shifted, changes, changes_sum, changes_at_place}
 use Rattle.book.proofs.Orders.{none_from}
 use Rattle.cash.specs.Payments.{wrong_fields}
-use Rattle.cash.specs.Cash.{cash, covers, moves}
-use Rattle.cash.specs.Sums.{KeepsSum, PaysOut, PaysToTheLast}
+use Rattle.cash.specs.Cash.{covers, moves}
+use Rattle.cash.specs.Sums.{KeepsSum, PaysToTheLast}
 
 -- a well-formed payment goes to a desk of the group
 pub payee_known : (n o : ℕ) (x : List ℕ) → first (wrong_fields n o x) ≡ None → byte 1 x < n

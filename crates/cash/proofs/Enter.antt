@@ -1,5 +1,5 @@
 -- Entering a payment that is covered: the desk's count, then the payee's balance, then the origin's.
-use Rattle.std.proofs.Common.{◌≡◌, ℕ, ◌+◌, ◌*◌, ◌^◌, ◌<◌, ◌≤◌, Bool, true, false, cond, ◌&&◌, ◌||◌, eqb, ltb, leb, ◌≢◌, List, length, get_or, drop, ℤ, pos, ◌+ℤ◌, neg_ℤ, nat_abs, None, sym, refl, ap, ◌∙◌, subst, arith}
+use Rattle.std.proofs.Common.{◌≡◌, ℕ, ◌+◌, ◌*◌, ◌<◌, ◌≤◌, Bool, true, false, cond, ◌&&◌, eqb, ltb, leb, ◌≢◌, List, length, get_or, drop, ℤ, pos, ◌+ℤ◌, neg_ℤ, nat_abs, None, sym, refl, ap, ◌∙◌, arith}
 use lib.Signed.{le_z}
 use Rattle.std.proofs.lemmas.Int.{ints}
 use Rattle.std.proofs.lemmas.Bool.{or_parts, leb-false, eqb-false, ltb-false, ne_eqb}

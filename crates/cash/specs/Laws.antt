@@ -1,12 +1,12 @@
 -- The laws of cash, shown of its rules. Assumes nothing.
-use Rattle.std.specs.Prelude.{◌≡◌, ℕ, ◌<◌, ◌≤◌, Bool, true, false, cond, not, ◌&&◌, ◌≢◌, List, length, ℤ, pos, ◌+ℤ◌, neg_ℤ, is_some, Some, None, ◌==◌, int_le, slice_index_or, refl}
-use Rattle.std.proofs.Common.{sym, ap, subst, ◌∙◌, arith}
-use Rattle.std.proofs.Math.IntN.{+ℤ_idr, +ℤ_invr}
+use Rattle.std.specs.Prelude.{◌≡◌, ℕ, ◌<◌, true, cond, not, ◌≢◌, List, length, ℤ, pos, ◌+ℤ◌, neg_ℤ, is_some, ◌==◌, int_le, slice_index_or}
+use Rattle.std.proofs.Common.{sym, ap, subst, ◌∙◌}
+use Rattle.std.proofs.Math.IntN.{+ℤ_idr}
 use Rattle.std.proofs.lemmas.Bool.{and_parts, and_from}
 use Rattle.desks.specs.Firsts.{first}
 use Rattle.book.specs.Items.{byte, quantity}
-use Rattle.book.specs.Rules.{Rules, Laws, Fit, shifted, total, at_place}
-use Rattle.book.proofs.Shifts.{length_shifted, get_or_shifted, either_order, total_shifted, changes, changes_sum, changes_at_place}
+use Rattle.book.specs.Rules.{Laws, shifted, at_place}
+use Rattle.book.proofs.Shifts.{length_shifted, get_or_shifted, either_order}
 use Rattle.book.proofs.Orders.{none_from, int_le_more, at_place_pos, at_place_other}
 use Rattle.cash.specs.Payments.{wrong_fields}
 use Rattle.cash.specs.Cash.{cash, covers, moves}

@@ -1,7 +1,7 @@
 -- What a value of cash means: the figures and counts in its ledger. Assumes nothing.
-use Rattle.std.specs.Prelude.{◌≡◌, ℕ, ◌≤◌, unsigned_abs}
-use Rattle.std.proofs.Common.{sym, ap, subst, ◌∙◌, arith}
-use Rattle.ledger.specs.Figures.{figure_at, count_at, figures, memory_of}
+use Rattle.std.specs.Prelude.{◌≤◌, unsigned_abs}
+use Rattle.std.proofs.Common.{sym, subst, ◌∙◌, arith}
+use Rattle.ledger.specs.Figures.{count_at, figures, memory_of}
 use Rattle.ledger.proofs.Listed.{length_figures, figures_none, get_or_figures}
 use Rattle.book.specs.Model.{BookModel, Sound}
 use Rattle.cash.specs.declared.table.Cash.{Cash}

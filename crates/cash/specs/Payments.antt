@@ -1,5 +1,5 @@
 -- The items of cash: a payment of an amount to another desk. Assumes nothing.
-use Rattle.std.specs.Prelude.{ℕ, Bool, not, ◌||◌, List, [], ◌∷◌, ◌==◌, nat_le}
+use Rattle.std.specs.Prelude.{ℕ, not, ◌||◌, List, [], ◌∷◌, ◌==◌, nat_le}
 use Rattle.desks.specs.Firsts.{Tests}
 use Rattle.desks.specs.Forming.{outside}
 use Rattle.book.specs.Items.{byte, quantity, padded}

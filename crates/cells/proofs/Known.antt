@@ -1,5 +1,5 @@
 -- What is known of cells: when one is there, its width, that it is zero in zeroed bytes, and what a write makes of them.
-use Rattle.std.proofs.Common.{◌≡◌, ℕ, ◌+◌, ◌-◌, ◌*◌, ◌≤◌, Bool, true, false, cond, eqb, ◌≢◌, List, length, take, drop, replicate, is_some, Some, None, Option, sym, refl, ap, ◌∙◌, ⊎_elim, add-mul, one-mul, arith}
+use Rattle.std.proofs.Common.{◌≡◌, ℕ, ◌+◌, ◌-◌, ◌*◌, ◌≤◌, Bool, true, false, cond, eqb, ◌≢◌, List, length, take, drop, replicate, is_some, Some, None, sym, refl, ap, ◌∙◌, ⊎_elim, add-mul, one-mul, arith}
 use lib.Seq.{paste}
 use Rattle.std.proofs.lemmas.List.Edits.{length-paste}
 use Rattle.std.proofs.lemmas.List.{length-take-le, length-drop, length-replicate, take-replicate, drop-replicate}

@@ -1,11 +1,10 @@
 -- The bits of a set: how many are set, and whether one is at or above a place.
-use Rattle.std.proofs.Common.{◌≡◌, ℕ, zero, suc, ◌+◌, ◌-◌, ◌*◌, ◌/◌, ◌%◌, ◌^◌, ◌<◌, ◌≤◌, Bool, true, false, cond, not, ◌&&◌, eqb, ltb, ◌⊎◌, Decides, sym, refl, ap, ◌∙◌, subst, inl, inr, ⊎_elim, le_trans, div-lt_iff_lt-mul, div-one, arith, pow_mono}
+use Rattle.std.proofs.Common.{◌≡◌, ℕ, zero, suc, ◌+◌, ◌-◌, ◌/◌, ◌%◌, ◌^◌, ◌<◌, ◌≤◌, true, not, ◌&&◌, eqb, ltb, Decides, sym, refl, ap, ◌∙◌, subst, ⊎_elim, le_trans, div-one, arith, pow_mono}
 use native.Mathlib.Nat.{div-eq_of_lt}
 use lib.Count.{ones, ones_step, leading_top}
-use Rattle.std.proofs.lemmas.Nat.{shr-shr, shr_le, shr_below, pow_pos, shr_split, mod_below, pow_below, le-div, div_below}
-use Rattle.std.proofs.lemmas.Bool.{cases_lt, ltb-true, lt-ltb, le-ltb, eq-eqb, ne_eqb, eqb-true, eqb-false, not-true, not_from_false, and_parts, and_from, cases_Bool}
-use Rattle.std.proofs.lemmas.Bool.Decides.{nat_tests}
-use Rattle.desks.specs.Sets.{one, how_many, has_desk, size_of, Beyond, beyond}
+use Rattle.std.proofs.lemmas.Nat.{shr-shr, shr_le, shr_below, pow_pos, mod_below, le-div}
+use Rattle.std.proofs.lemmas.Bool.{cases_lt, ltb-true, lt-ltb, eq-eqb, ne_eqb, eqb-true, eqb-false, not-true, not_from_false, and_parts, and_from}
+use Rattle.desks.specs.Sets.{one, how_many, has_desk, size_of, Beyond}
 
 bit : (x : ℕ) → x < 2 → one (eqb x 1) ≡ x
 bit zero h = refl

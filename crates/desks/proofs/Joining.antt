@@ -1,11 +1,11 @@
 -- A set with one desk more.
-use Rattle.std.proofs.Common.{◌≡◌, ℕ, zero, suc, ◌+◌, ◌-◌, ◌*◌, ◌/◌, ◌%◌, ◌^◌, ◌<◌, ◌≤◌, Bool, true, false, cond, not, ◌&&◌, ◌||◌, eqb, ltb, ◌⊎◌, sym, refl, ap, ◌∙◌, subst, inl, inr, ⊎_elim, mul_comm, one-mul, arith}
+use Rattle.std.proofs.Common.{◌≡◌, ℕ, zero, suc, ◌+◌, ◌-◌, ◌/◌, ◌%◌, ◌^◌, ◌<◌, ◌≤◌, Bool, true, false, ◌&&◌, ◌||◌, eqb, ltb, sym, refl, ap, ◌∙◌, ⊎_elim, one-mul, arith}
 use native.Mathlib.Nat.{div-eq_of_lt}
 use native.Mathlib.Nat.{mul-mod_left}
 use lib.Bits.{bit_or}
-use Rattle.std.proofs.lemmas.Nat.{pow-add, shl-shr, or_shr, or_mod, pow_below, mod_below, pow_pos}
-use Rattle.std.proofs.lemmas.Bool.{cases_lt, ltb-true, lt-ltb, le-ltb, eq-eqb, ne_eqb, eqb-true, eqb-false, cases_Bool, cases_eq}
-use Rattle.desks.specs.Sets.{has_desk, Joined}
+use Rattle.std.proofs.lemmas.Nat.{pow-add, shl-shr, or_shr, or_mod, pow_below, mod_below}
+use Rattle.std.proofs.lemmas.Bool.{cases_lt, lt-ltb, le-ltb, eq-eqb, ne_eqb, cases_eq}
+use Rattle.desks.specs.Sets.{has_desk}
 
 pub none_joined : (b d q : ℕ) → 16 ≤ d → has_desk b q ≡ ((ltb q 16 && eqb q d) || has_desk b q)
 none_joined b d q h = ⊎_elim

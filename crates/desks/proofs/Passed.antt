@@ -1,5 +1,5 @@
 -- What an answer says of the tests before it.
-use Rattle.std.proofs.Common.{◌≡◌, ℕ, zero, suc, Bool, true, false, cond, List, [], ◌∷◌, ◌++◌, Some, None, Ok, Err, Option, Result, sym, refl, arith}
+use Rattle.std.proofs.Common.{◌≡◌, ℕ, zero, suc, Bool, true, false, cond, [], ◌∷◌, ◌++◌, Some, None, Ok, Err, Option, Result, refl, arith}
 use Rattle.std.specs.Option.{option_map}
 use Rattle.desks.specs.Firsts.{Tests, first, lifted, unless, Unless}
 

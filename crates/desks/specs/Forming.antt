@@ -1,8 +1,8 @@
 -- The refusals of forming that the parameters of a group decide, in order. Assumes nothing.
-use Rattle.std.specs.Prelude.{ℕ, ◌*◌, Bool, not, ◌&&◌, ◌||◌, List, [], ◌∷◌, ◌==◌, nat_le, nat_lt}
-use Rattle.desks.specs.declared.faults.Parameter.TheVariants.{Desks, Numbers, Faults, Factor, BookCode}
+use Rattle.std.specs.Prelude.{ℕ, ◌*◌, Bool, not, ◌&&◌, ◌||◌, [], ◌∷◌, ◌==◌, nat_le, nat_lt}
+use Rattle.desks.specs.declared.faults.Parameter.TheVariants.{Desks, Numbers, Faults, Factor}
 use Rattle.desks.specs.declared.faults.FormFault.{FormFault}
-use Rattle.desks.specs.declared.faults.FormFault.TheVariants.{Range, Resilience, FaultySet, Memory}
+use Rattle.desks.specs.declared.faults.FormFault.TheVariants.{Range, Resilience, FaultySet}
 use Rattle.desks.specs.declared.group.Group.{Group}
 use Rattle.desks.specs.declared.group.GroupParameters.{GroupParameters}
 use Rattle.desks.specs.Firsts.{Tests}

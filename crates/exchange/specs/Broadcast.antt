@@ -1,6 +1,6 @@
 -- A broadcast protocol as a carrier uses it. Assumes nothing.
-use Rattle.std.specs.Prelude.{◌≡◌, ℕ, ◌≤◌, Bool, true, false, ◌⊎◌, List, [], length, Some, None, Option}
-use Rattle.std.specs.List.{AllByRecursion as All}
+use Rattle.std.specs.Prelude.{◌≡◌, ℕ, ◌≤◌, Bool, true, false, ◌⊎◌, [], length, Some, None}
+use Rattle.std.specs.List.{AllByRecursion}
 use Rattle.frame.specs.declared.kinds.Kind.{Kind}
 use Rattle.frame.specs.declared.kinds.Kind.TheVariants.{Init, Echo, Ready, Witness}
 use Rattle.frame.specs.Kinds.{known_to, has_kind}
@@ -45,7 +45,7 @@ pub record Regular {D K : Type 0} (B : Broadcast D K) : Type 0 where
   pub none : B.protocol.accepted B.protocol.blank ≡ None
   -- on a frame a desk sends at most two, for the content received
   pub few : (S : Setting Content) (d : ℕ) (H : D) (p : ℕ) (k : K) (c : Content) → length (B.protocol.sends S d H (B.protocol.receive S H p k c) c) ≤ 2
-  pub sends : (S : Setting Content) (d : ℕ) (H : D) (p : ℕ) (k : K) (c : Content) → All (Sends B.code B.factor d c) (B.protocol.sends S d H (B.protocol.receive S H p k c) c)
+  pub sends : (S : Setting Content) (d : ℕ) (H : D) (p : ℕ) (k : K) (c : Content) → AllByRecursion (Sends B.code B.factor d c) (B.protocol.sends S d H (B.protocol.receive S H p k c) c)
   -- and accepts nothing, or the content received where it had nothing
   pub accepts : (S : Setting Content) (H : D) (p : ℕ) (k : K) (c : Content) →
       (B.protocol.accepted (B.protocol.receive S H p k c) ≡ B.protocol.accepted H) ⊎ ((B.protocol.accepted H ≡ None) × (B.protocol.accepted (B.protocol.receive S H p k c) ≡ Some c))

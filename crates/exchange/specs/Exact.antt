@@ -1,12 +1,11 @@
 -- The state of a carrier over a protocol, what it means, and the network that it is. Assumes nothing.
-use Rattle.std.specs.Prelude.{◌≡◌, ℕ, zero, suc, Bool, true, false, cond, ◌&&◌, List, [], map, Some, None, Option, ◌==◌}
+use Rattle.std.specs.Prelude.{ℕ, zero, suc, Bool, ◌&&◌, List, map, None, Option, ◌==◌}
 use Rattle.std.specs.List.{slice_get}
 use Rattle.std.specs.Str.{bytes_eq}
 use Rattle.desks.specs.declared.group.Group.{Group}
 use Rattle.wire.specs.Posted.{Posted}
-use Rattle.quorum.specs.Frames.{Setting, Frame}
-use Rattle.quorum.specs.Machine.{Protocol}
-use Rattle.quorum.specs.Network.{Named, Network, Common, setting}
+use Rattle.quorum.specs.Frames.{Frame}
+use Rattle.quorum.specs.Network.{Named, Network, Common}
 use Rattle.quorum.specs.Parts.{part}
 use Rattle.carrier.specs.Meaning.{Content, Meaning, faulty}
 use Rattle.exchange.specs.Broadcast.{Broadcast, is_init}

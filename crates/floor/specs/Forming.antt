@@ -1,5 +1,5 @@
 -- The check of forming: the parameters, the book's code, what they say together, and the memory, in that order. Assumes nothing.
-use Rattle.std.specs.Prelude.{ℕ, Bool, cond, not, ◌&&◌, List, [], ◌∷◌, ◌++◌, Result, ◌==◌, nat_lt}
+use Rattle.std.specs.Prelude.{ℕ, cond, not, ◌&&◌, [], ◌∷◌, ◌++◌, Result, ◌==◌, nat_lt}
 use Rattle.std.specs.Option.{option_map}
 use Rattle.desks.specs.declared.faults.Parameter.TheVariants.{BookCode}
 use Rattle.desks.specs.declared.faults.FormFault.{FormFault}

@@ -1,6 +1,6 @@
 -- The bounds of a ledger are kept: by making it, by an opening within its range, and by a step for each item counted.
-use Rattle.std.proofs.Common.{◌≡◌, ℕ, ◌+◌, ◌*◌, ◌<◌, ◌≤◌, Bool, true, false, cond, ◌&&◌, eqb, List, ℤ, pos, nat_abs, sym, refl, ap, ◌∙◌, subst, ⊎_elim, mul-le-mul_left, arith, MutBor}
-use Rattle.std.proofs.lemmas.Bool.{cond_both, cases_Bool, eqb-true, and_parts}
+use Rattle.std.proofs.Common.{◌≡◌, ℕ, ◌+◌, ◌*◌, ◌<◌, ◌≤◌, Bool, true, false, cond, ◌&&◌, eqb, List, ℤ, nat_abs, sym, refl, ap, subst, mul-le-mul_left, arith, MutBor}
+use Rattle.std.proofs.lemmas.Bool.{eqb-true, and_parts}
 use Rattle.ledger.specs.declared.Ledger.{Ledger}
 use Rattle.ledger.specs.Figures.{figure_at, count_at, reaches}
 use Rattle.ledger.specs.Changes.{Made, Set, SetAll, Raised}

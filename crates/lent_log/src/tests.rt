@@ -10,7 +10,7 @@ fn three_places(rt: HostRuntime) {
     }
     assert_eq!(rt; log.push(7), false);
     assert_eq!(rt; log.replace(1, 8), true);
-    assert_eq!(rt; log.entries(), &[4, 8, 6]);
+    assert_eq!(rt; log.entries(), [4, 8, 6].as_slice());
     assert_eq!(rt; log.get(1), Some(8));
     assert_eq!(rt; log.get(3), None);
 }

@@ -1,5 +1,5 @@
 -- Entering a well-formed item: the desk's count, then its one figure.
-use Rattle.std.proofs.Common.{◌≡◌, ℕ, ◌+◌, ◌*◌, ◌^◌, ◌<◌, ◌≤◌, Bool, true, false, cond, not, ◌&&◌, ◌||◌, eqb, ltb, ◌≢◌, List, length, drop, ℤ, pos, negsuc, ◌+ℤ◌, nat_abs, None, sym, refl, ap, ◌∙◌, subst, arith}
+use Rattle.std.proofs.Common.{◌≡◌, ℕ, ◌+◌, ◌*◌, ◌<◌, ◌≤◌, Bool, true, false, cond, ◌||◌, eqb, ◌≢◌, List, length, drop, pos, negsuc, ◌+ℤ◌, nat_abs, None, ap, ◌∙◌, arith}
 use lib.Signed.{lt_z}
 use Rattle.std.proofs.lemmas.Bool.{or_parts, ltb-false}
 use Rattle.desks.specs.Firsts.{first}
@@ -10,7 +10,7 @@ use Rattle.ledger.specs.Changes.{Set, Added, Raised}
 use Rattle.ledger.specs.Bounds.{Within, Counted}
 use Rattle.ledger.proofs.Listed.{figures_raised}
 use Rattle.ledger.proofs.Bounds.{within_raised, counted_raised, within_set, counted_set, same_count}
-use Rattle.book.specs.Items.{byte, quantity, padded}
+use Rattle.book.specs.Items.{byte, quantity}
 use Rattle.book.specs.Model.{most_items}
 use Rattle.book.specs.Rules.{shifted, at_place}
 use Rattle.book.specs.Calls.{Entered}

@@ -1,5 +1,5 @@
 -- Two fills of 10,000 lots under a limit of 10,000 on the net.
-use Rattle.std.proofs.Common.{◌≡◌, ℕ, ◌<◌, ◌≤◌, true, false, replicate, pos, sym, refl, ◌∙◌, arith}
+use Rattle.std.proofs.Common.{ℕ, ◌<◌, replicate, pos, refl, arith}
 use Rattle.std.proofs.lemmas.Bool.{false≢true}
 use Rattle.book.specs.Rules.{Fit}
 use Rattle.positions.specs.Positions.{figures_of_a_desk}

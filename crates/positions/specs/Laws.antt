@@ -1,5 +1,5 @@
 -- The laws of positions, shown of its rules. Assumes nothing.
-use Rattle.std.specs.Prelude.{◌≡◌, ℕ}
+use Rattle.std.specs.Prelude.{ℕ}
 use Rattle.std.proofs.Common.{◌∙◌}
 use Rattle.desks.specs.Firsts.{first}
 use Rattle.book.specs.Rules.{Laws, at_place}

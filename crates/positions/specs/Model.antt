@@ -1,11 +1,11 @@
 -- What a value of positions means: the figures and counts in its ledger. Assumes nothing.
-use Rattle.std.specs.Prelude.{◌≡◌, ℕ, ◌≤◌, unsigned_abs}
-use Rattle.std.proofs.Common.{sym, ap, subst, ◌∙◌, arith}
-use Rattle.ledger.specs.Figures.{figure_at, count_at, figures, memory_of}
+use Rattle.std.specs.Prelude.{◌≤◌, unsigned_abs}
+use Rattle.std.proofs.Common.{sym, subst, ◌∙◌, arith}
+use Rattle.ledger.specs.Figures.{count_at, figures, memory_of}
 use Rattle.ledger.proofs.Listed.{length_figures, figures_none, get_or_figures}
 use Rattle.book.specs.Model.{BookModel, Sound}
 use Rattle.positions.specs.declared.table.Positions.{Positions}
-use Rattle.positions.specs.Positions.{positions, position_limit, position_bytes, figures_of_a_desk}
+use Rattle.positions.specs.Positions.{positions, position_limit, position_bytes}
 use Rattle.positions.specs.Laws.{positions_lawful}
 
 pub positions_sound : (b : Positions) → Sound (positions b.ledger.desks) position_limit b.ledger.desks (figures b.ledger) (count_at b.ledger)

@@ -1,8 +1,6 @@
 -- Why positions admit without looking at the group's net: with a limit on it, an admitted item could be shut out by another. Assumes nothing.
-use Rattle.std.specs.Prelude.{◌≡◌, ℕ, ◌≤◌, true, false, not, ◌&&◌, List, [], ◌∷◌, replicate, pos, is_some, nat_le, unsigned_abs}
-use Rattle.desks.specs.Firsts.{first}
-use Rattle.book.specs.Rules.{Rules, StillAdmitted, shifted, total, at_place}
-use Rattle.positions.specs.Trades.{lots, wrong_fields, target}
+use Rattle.std.specs.Prelude.{◌≡◌, ℕ, ◌≤◌, true, false, ◌&&◌, List, [], ◌∷◌, replicate, pos, nat_le, unsigned_abs}
+use Rattle.book.specs.Rules.{Rules, StillAdmitted, total}
 use Rattle.positions.specs.Positions.{figures_of_a_desk, positions}
 
 -- positions that also ask that the net of all figures stays within a limit

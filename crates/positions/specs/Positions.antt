@@ -1,9 +1,7 @@
 -- The rules of positions: every well-formed item is admitted, and adds its lots to one figure. Assumes nothing.
-use Rattle.std.specs.Prelude.{◌≡◌, ℕ, ◌*◌, Bool, true, not, List, length, ℤ, pos, negsuc, neg_ℤ, is_some, refl}
-use Rattle.std.proofs.Common.{sym, ◌∙◌}
+use Rattle.std.specs.Prelude.{ℕ, ◌*◌, not, List, ℤ, pos, negsuc, neg_ℤ, is_some}
 use Rattle.desks.specs.Firsts.{first}
-use Rattle.book.specs.Rules.{Rules, Laws, shifted, total, at_place}
-use Rattle.book.proofs.Shifts.{length_shifted, either_order}
+use Rattle.book.specs.Rules.{Rules, shifted, total, at_place}
 use Rattle.positions.specs.Trades.{lots, wrong_fields, target}
 
 abbrev pub figures_of_a_desk : ℕ

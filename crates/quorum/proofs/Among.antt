@@ -1,9 +1,9 @@
 -- Counts of the desks that are not faulty.
-use Rattle.std.proofs.Common.{◌≡◌, ℕ, ◌+◌, ◌*◌, ◌<◌, ◌≤◌, Bool, true, false, cond, not, ◌&&◌, ◌||◌, ◌⊎◌, sym, refl, ap, ◌∙◌, subst, inl, inr, ⊎_elim, arith}
+use Rattle.std.proofs.Common.{◌≡◌, ℕ, ◌+◌, ◌<◌, ◌≤◌, Bool, true, not, ◌&&◌, ◌⊎◌, refl, inl, inr, ⊎_elim, arith}
 use Rattle.std.proofs.lemmas.Bool.{and_parts, and_from, cases_Bool, not-true, not_from_false}
-use Rattle.desks.specs.Sets.{one, how_many}
+use Rattle.desks.specs.Sets.{how_many}
 use Rattle.quorum.specs.Frames.{Setting, Correct, among, faults}
-use Rattle.quorum.proofs.Counting.{cnt_mono, cnt_split, cnt_apart, cnt_not, cnt_some, cnt_le}
+use Rattle.quorum.proofs.Counting.{cnt_mono, cnt_split, cnt_apart, cnt_not, cnt_some}
 
 module _ {C : Type 0} (S : Setting C) where
   masked : (q : ℕ) (b : Bool) → Correct S q → b ≡ true → (not (S.faulty q) && b) ≡ true

@@ -1,10 +1,10 @@
 -- Options, kinds, correct desks, and the wire. Assumes nothing.
-use Rattle.std.proofs.Common.{◌≡◌, ℕ, zero, suc, ◌+◌, ◌*◌, ◌<◌, ◌≤◌, Bool, true, false, cond, not, ◌&&◌, ◌||◌, eqb, ltb, ◌⊎◌, List, [], ◌∷◌, ◌++◌, length, get_or, set, Some, None, Option, sym, refl, ap, ◌∙◌, subst, inl, inr, ⊎_elim, arith, length-append}
-use Rattle.std.specs.List.{AllByRecursion as All}
-use Rattle.std.proofs.lemmas.Bool.{eqb-true, eq-eqb, ne_eqb, and_parts, and_from, or_cases, or_left, or_right, both_ways, cases_Bool, cases_eq, not-true, not_from_false}
-use Rattle.desks.specs.Sets.{one, how_many}
-use Rattle.quorum.specs.Frames.{Setting, Valid, Correct, some, is, settle, other, put, Frame, new, mark, fresh, on}
-use Rattle.quorum.proofs.Counting.{cnt_mono, cnt_split, one_true}
+use Rattle.std.proofs.Common.{◌≡◌, ℕ, zero, suc, ◌+◌, ◌<◌, ◌≤◌, Bool, true, false, ◌⊎◌, List, [], ◌∷◌, ◌++◌, length, get_or, set, Some, None, Option, sym, refl, ap, inl, inr, ⊎_elim, arith}
+use Rattle.std.specs.List.{AllByRecursion}
+use Rattle.std.proofs.lemmas.Bool.{or_cases, or_left, or_right, both_ways, cases_Bool}
+use Rattle.desks.specs.Sets.{one}
+use Rattle.quorum.specs.Frames.{Setting, Valid, some, is, settle, Frame, new, fresh, on}
+use Rattle.quorum.proofs.Counting.{one_true}
 
 pub clash_of : {A : Type 0} (b : Bool) → b ≡ true → b ≡ false → A
 clash_of b t f = absurd (both_ways b f t)
@@ -82,7 +82,7 @@ module _ {K C : Type 0} where
     on_set (h ∷ w) (suc i) f g l e m o = ⊎_elim (λ a. or_left _ _ a) (λ a. or_right _ _ (on_set w i f g (omega arith) e m a)) (or_cases _ _ o)
 
     -- what stands on the wire, taken out of it
-    pub pick : (P : Frame K C → Type 0) (Q : Type 0) (w : List (Frame K C)) → All P w → on T w ≡ true → ((f : Frame K C) → P f → T f ≡ true → Q) → Q
+    pub pick : (P : Frame K C → Type 0) (Q : Type 0) (w : List (Frame K C)) → AllByRecursion P w → on T w ≡ true → ((f : Frame K C) → P f → T f ≡ true → Q) → Q
     pick P Q [] a o h = clash_of false o refl
     pick P Q (f ∷ w) a o h = ⊎_elim (λ e. h f a.0 e) (λ e. pick P Q w a.1 e h) (or_cases _ _ o)
 
@@ -96,11 +96,11 @@ module _ {K C : Type 0} where
   fresh_length d k None (Some c) h = omega arith
   fresh_length d k None None h = omega arith
 
-  pub fresh_all : (P : Frame K C → Type 0) (d : ℕ) (k : K) (o o' : Option C) → ((x : C) → o' ≡ Some x → P (new d k x)) → All P (fresh d k o o')
+  pub fresh_all : (P : Frame K C → Type 0) (d : ℕ) (k : K) (o o' : Option C) → ((x : C) → o' ≡ Some x → P (new d k x)) → AllByRecursion P (fresh d k o o')
   fresh_all P d k (Some x) o' h = tt
   fresh_all P d k None (Some c) h = (h c refl, tt)
   fresh_all P d k None None h = tt
 
-  pub all_both : (P Q : Frame K C → Type 0) (w : List (Frame K C)) → All P w → All Q w → All (λ f. P f × Q f) w
+  pub all_both : (P Q : Frame K C → Type 0) (w : List (Frame K C)) → AllByRecursion P w → AllByRecursion Q w → AllByRecursion (λ f. P f × Q f) w
   all_both P Q [] a b = tt
   all_both P Q (f ∷ w) a b = ((a.0, b.0), all_both P Q w a.1 b.1)

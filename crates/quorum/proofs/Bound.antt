@@ -1,10 +1,9 @@
 -- The wire of all identities is no longer than the wires of each together.
-use Rattle.std.proofs.Common.{◌≡◌, ℕ, zero, suc, ◌+◌, ◌-◌, ◌*◌, ◌<◌, ◌≤◌, Bool, true, false, cond, ◌&&◌, List, [], ◌∷◌, length, sym, refl, ap, ◌∙◌, subst, ⊎_elim, mul_assoc, suc-mul, arith}
-use Rattle.std.specs.List.{AllByRecursion as All}
+use Rattle.std.proofs.Common.{◌≡◌, ℕ, zero, suc, ◌+◌, ◌-◌, ◌*◌, ◌<◌, ◌≤◌, Bool, true, false, cond, List, [], ◌∷◌, length, sym, refl, ap, ⊎_elim, mul_assoc, suc-mul, arith}
 use Rattle.std.proofs.lemmas.Bool.{and_from, eq-eqb, cases_eq}
 use Rattle.desks.specs.Sets.{one}
-use Rattle.quorum.specs.Machine.{Protocol, Laws}
-use Rattle.quorum.specs.Network.{Named, of, wire_of, Network, view, Common, setting, Attained, LawfulEverywhere, Identified, BoundedEverywhere}
+use Rattle.quorum.specs.Machine.{Protocol}
+use Rattle.quorum.specs.Network.{Named, of, wire_of, LawfulEverywhere, Identified, BoundedEverywhere}
 
 -- the sum of the first n values
 abbrev pub sums : (ℕ → ℕ) → ℕ → ℕ

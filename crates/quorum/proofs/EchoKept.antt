@@ -1,18 +1,18 @@
 -- Every step keeps Sound.
-use Rattle.std.proofs.Common.{◌≡◌, ℕ, zero, suc, ◌+◌, ◌*◌, ◌<◌, ◌≤◌, Bool, true, false, cond, not, ◌&&◌, ◌||◌, eqb, ltb, ◌⊎◌, List, [], ◌∷◌, ◌++◌, length, get_or, set, Some, None, Option, sym, refl, ap, ◌∙◌, subst, inl, inr, ⊎_elim, arith, length-append, length-set}
-use Rattle.std.specs.List.{AllByRecursion as All}
-use Rattle.std.proofs.lemmas.Bool.{ltb-true, lt-ltb, eqb-true, eq-eqb, ne_eqb, or_cases, or_left, or_right, and_parts, and_from, and_left, cases_Bool, cases_eq, both_ways, cond-true, cond-false}
-use Rattle.std.proofs.ByRecursion.{All-append, All-set, All-weaker, All-get_or, All-push}
+use Rattle.std.proofs.Common.{◌≡◌, ℕ, ◌+◌, ◌*◌, ◌<◌, ◌≤◌, Bool, true, false, cond, not, ◌&&◌, eqb, List, [], ◌∷◌, ◌++◌, length, set, Some, None, Option, sym, refl, ap, ◌∙◌, subst, inl, inr, ⊎_elim, arith, length-append, length-set}
+use Rattle.std.specs.List.{AllByRecursion}
+use Rattle.std.proofs.lemmas.Bool.{ltb-true, lt-ltb, eqb-true, eq-eqb, ne_eqb, or_cases, or_left, or_right, and_parts, and_from, cases_Bool, cases_eq, cond-true, cond-false}
+use Rattle.std.proofs.ByRecursion.{All-append, All-set, All-weaker, All-get_or}
 use Rattle.desks.specs.Sets.{one, how_many}
-use Rattle.quorum.specs.Frames.{Setting, Valid, Correct, some, is, other, settle, put, among, faults, Frame, new, mark, fresh, on}
+use Rattle.quorum.specs.Frames.{Setting, Valid, Correct, some, is, other, settle, Frame, new, mark, fresh, on}
 use Rattle.quorum.specs.DoubleEcho.{Kind, init, echo, ready, eqk, Desk, State, votes, heavy, final, recorded, answered, clash, receive, sends, double_echo}
 use Rattle.quorum.specs.Machine.{start, offering, received, Step, offer, take, feign, Reached, at_start, then_step}
 use Rattle.quorum.specs.EchoInvariant.{says, by, Heard, Told, Backed, TrueVotes, Settled, Sound}
-use Rattle.quorum.proofs.Counting.{cnt_mono, cnt_point, cnt_never, never}
+use Rattle.quorum.proofs.Counting.{cnt_mono, cnt_point, cnt_never}
 use Rattle.quorum.proofs.Basics.{settle_one, clash_of, some_inj, some_yes, some_not_none, some_value, settle_kept, settle_some, settle_fires, settle_cases, is_some, some_is, cases_same, on_append, on_set, fresh_on, fresh_length, fresh_all}
 use Rattle.quorum.proofs.Among.{among_mono}
-use Rattle.quorum.proofs.EchoKinds.{eqk_true, eqk_refl}
-use Rattle.quorum.proofs.EchoOne.{votes_bound, agreement, heavy_backs, final_backs, accepted_backs, backed_echoed}
+use Rattle.quorum.proofs.EchoKinds.{eqk_true}
+use Rattle.quorum.proofs.EchoOne.{agreement, heavy_backs, final_backs, accepted_backs, backed_echoed}
 
 -- what a faulty desk says is free; what another says, it sent
 pub record Genuine {C : Type 0} (S : Setting C) (s : State C) (p : ℕ) (k : Kind) (c : C) : Type 0 where
@@ -206,9 +206,9 @@ module _ {C : Type 0} (S : Setting C) (F : Valid S) where
       told_fresh l x e = record { sent_by = gd; said = e; heard = λ q g y. clash_of false y refl }
 
       -- The wire: w is the wire before, perhaps with a mark.
-      module _ (w : List (Frame Kind C)) (told : All (Told S s') w) (still-on : (q : ℕ) (l : Kind) → on (by q l) s.wire ≡ true → on (by q l) w ≡ true) (as_long : length w ≡ length s.wire) (wire_is : s'.wire ≡ w ++ sends d (s.desk d) (s'.desk d)) where
-        frames' : All (Told S s') s'.wire
-        frames' = subst (All (Told S s')) (sym wire_is) (All-append (Told S s') w (sends d (s.desk d) (s'.desk d)) told (All-append (Told S s') echoed readied
+      module _ (w : List (Frame Kind C)) (told : AllByRecursion (Told S s') w) (still-on : (q : ℕ) (l : Kind) → on (by q l) s.wire ≡ true → on (by q l) w ≡ true) (as_long : length w ≡ length s.wire) (wire_is : s'.wire ≡ w ++ sends d (s.desk d) (s'.desk d)) where
+        frames' : AllByRecursion (Told S s') s'.wire
+        frames' = subst (AllByRecursion (Told S s')) (sym wire_is) (All-append (Told S s') w (sends d (s.desk d) (s'.desk d)) told (All-append (Told S s') echoed readied
             (fresh_all (Told S s') d echo (s.desk d).echo_sent (s'.desk d).echo_sent (λ x e. told_fresh echo x e))
             (fresh_all (Told S s') d ready (s.desk d).ready_sent (s'.desk d).ready_sent (λ x e. told_fresh ready x e))))
           where
@@ -256,7 +256,7 @@ module _ {C : Type 0} (S : Setting C) (F : Valid S) where
   module _ (enough : 3 * S.t < S.n) where
     -- d receives, from the wire or not
     receive_keeps : (s : State C) → Sound S s → (w : List (Frame Kind C)) (d p : ℕ) (k : Kind) (c : C) → Correct S d → Genuine S s p k c →
-        ((s' : State C) → ((f : Frame Kind C) → Told S s f → Told S s' f) → ((f : Frame Kind C) → f.sender ≡ p → f.kind ≡ k → f.content ≡ c → Told S s f → Told S s' (mark d f)) → All (Told S s') w) →
+        ((s' : State C) → ((f : Frame Kind C) → Told S s f → Told S s' f) → ((f : Frame Kind C) → f.sender ≡ p → f.kind ≡ k → f.content ≡ c → Told S s f → Told S s' (mark d f)) → AllByRecursion (Told S s') w) →
         ((q : ℕ) (l : Kind) → on (by q l) s.wire ≡ true → on (by q l) w ≡ true) → length w ≡ length s.wire → Sound S (received double_echo S s w d p k c)
     receive_keeps s sound w d p k c gd genuine told still-on as_long =
         received_sound s sound d gd p k c genuine enough s' at_d at_others refl w

@@ -1,5 +1,5 @@
 -- The kinds of the double echo broadcast. Assumes nothing.
-use Rattle.std.proofs.Common.{◌≡◌, Bool, true, false, refl}
+use Rattle.std.proofs.Common.{◌≡◌, true, false, refl}
 use Rattle.quorum.specs.DoubleEcho.{Kind, init, echo, ready, eqk}
 use Rattle.quorum.proofs.Basics.{clash_of}
 

@@ -1,11 +1,11 @@
 -- The laws follow from Sound.
-use Rattle.std.proofs.Common.{◌≡◌, ℕ, ◌+◌, ◌*◌, ◌<◌, ◌≤◌, Bool, true, false, cond, not, ◌&&◌, ◌||◌, eqb, ltb, ◌⊎◌, length, Some, None, Option, sym, refl, ap, ◌∙◌, subst, inl, inr, ⊎_elim, arith}
+use Rattle.std.proofs.Common.{◌≡◌, ℕ, ◌+◌, ◌*◌, ◌<◌, ◌≤◌, Bool, true, false, eqb, Some, sym, refl, ap, ◌∙◌, subst, arith}
 use Rattle.std.proofs.lemmas.Bool.{eq-eqb, eqb-true, and_parts}
-use Rattle.desks.specs.Sets.{one, how_many}
+use Rattle.desks.specs.Sets.{one}
 use Rattle.quorum.specs.Frames.{Setting, Valid, Correct, some, is, among, faults, Frame, on, AllTaken}
-use Rattle.quorum.specs.DoubleEcho.{Kind, init, echo, ready, eqk, Desk, State, votes, heavy, final, double_echo}
+use Rattle.quorum.specs.DoubleEcho.{Kind, init, echo, ready, State, votes, double_echo}
 use Rattle.quorum.specs.Machine.{Laws}
-use Rattle.quorum.specs.EchoInvariant.{says, by, Heard, Told, Backed, TrueVotes, Settled, Sound}
+use Rattle.quorum.specs.EchoInvariant.{says, by, Heard, Told, Backed, Sound}
 use Rattle.quorum.proofs.Counting.{cnt_le}
 use Rattle.quorum.proofs.Among.{among_whole}
 use Rattle.quorum.proofs.EchoKinds.{eqk_true}

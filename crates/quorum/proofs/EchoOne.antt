@@ -1,10 +1,9 @@
 -- What the votes of a desk say, and that no two contents are backed.
-use Rattle.std.proofs.Common.{◌≡◌, ℕ, ◌+◌, ◌*◌, ◌<◌, ◌≤◌, Bool, true, false, cond, not, ◌&&◌, ◌||◌, eqb, ltb, ◌⊎◌, Some, None, Option, sym, refl, ap, ◌∙◌, subst, inl, inr, ⊎_elim, arith}
-use Rattle.std.proofs.lemmas.Bool.{ltb-true, or_cases, and_parts, cases_Bool, both_ways}
-use Rattle.desks.specs.Sets.{one, how_many}
-use Rattle.quorum.specs.Frames.{Setting, Valid, Correct, some, is, among, faults}
+use Rattle.std.proofs.Common.{◌≡◌, ℕ, ◌+◌, ◌*◌, ◌<◌, ◌≤◌, true, Some, Option, sym, ◌∙◌, ⊎_elim, arith}
+use Rattle.std.proofs.lemmas.Bool.{ltb-true, or_cases}
+use Rattle.quorum.specs.Frames.{Setting, Valid, Correct, is, among, faults}
 use Rattle.quorum.specs.DoubleEcho.{Desk, State, votes, heavy, final}
-use Rattle.quorum.specs.EchoInvariant.{Backed, TrueVotes, Settled, Sound}
+use Rattle.quorum.specs.EchoInvariant.{Backed, TrueVotes, Sound}
 use Rattle.quorum.proofs.Among.{among_bound, among_all, among_apart, among_some}
 use Rattle.quorum.proofs.Basics.{some_inj, is_some, some_is, cases_same}
 

@@ -1,9 +1,9 @@
 -- Each identity of an network goes its own way.
-use Rattle.std.proofs.Common.{◌≡◌, ℕ, zero, suc, ◌+◌, ◌*◌, ◌<◌, ◌≤◌, Bool, true, false, cond, ◌&&◌, eqb, ◌⊎◌, List, [], ◌∷◌, ◌++◌, map, length, get_or, set, Some, None, Option, sym, refl, ap, ◌∙◌, subst, inl, inr, ⊎_elim, append-nil, arith}
+use Rattle.std.proofs.Common.{◌≡◌, ℕ, Bool, true, false, List, [], ◌∷◌, ◌++◌, map, set, Option, sym, refl, ap, ◌∙◌, subst, ⊎_elim, append-nil}
 use Rattle.std.proofs.lemmas.Bool.{and_parts, and_from, eqb-true, eq-eqb, cond-true, cond-false, cases_Bool}
-use Rattle.quorum.specs.Frames.{Setting, Valid, Correct, put, Frame, new, mark}
-use Rattle.quorum.specs.Machine.{Protocol, State, start, offering, received, Step, offer, take, feign, Reached, at_start, then_step, Laws, Lawful}
-use Rattle.quorum.specs.Parts.{part, rank}
+use Rattle.quorum.specs.Frames.{Frame, new, mark}
+use Rattle.quorum.specs.Machine.{Protocol, State, start, offering, received, Step, offer, take, feign, Reached, at_start, then_step, Lawful}
+use Rattle.quorum.specs.Parts.{rank}
 use Rattle.quorum.specs.Network.{Named, named, same_identity, of, wire_of, Network, view, puts, opening, offering_at, received_at, Common, setting, Action, Attained, at_outset, then_action, LawfulEverywhere}
 use Rattle.quorum.specs.Network
 use Rattle.quorum.proofs.Basics.{clash_of}

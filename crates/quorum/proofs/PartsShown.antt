@@ -1,9 +1,7 @@
 -- The part of a list that passes a test. Assumes nothing.
-use Rattle.std.proofs.Common.{◌≡◌, ℕ, zero, suc, ◌+◌, ◌<◌, ◌≤◌, Bool, true, false, cond, ◌⊎◌, List, [], ◌∷◌, ◌++◌, length, get_or, set, sym, refl, ap, ◌∙◌, subst, inl, inr, ⊎_elim, arith}
-use Rattle.std.specs.List.{AllByRecursion as All}
-use Rattle.std.proofs.lemmas.Bool.{both_ways}
+use Rattle.std.proofs.Common.{◌≡◌, ℕ, zero, suc, ◌<◌, Bool, true, false, cond, List, [], ◌∷◌, ◌++◌, length, get_or, set, sym, refl, ap, ◌∙◌, arith}
+use Rattle.std.specs.List.{AllByRecursion}
 use Rattle.quorum.specs.Parts.{part, rank}
-use Rattle.quorum.proofs.Basics.{clash_of}
 
 module _ {X Y : Type 0} (T : X → Bool) (g : X → Y) where
   pub part_append : (u v : List X) → part T g (u ++ v) ≡ part T g u ++ part T g v
@@ -48,10 +46,10 @@ module _ {X Y : Type 0} (T : X → Bool) (g : X → Y) where
       at true h = ap (λ v. g z ∷ v) h
       at false h = h
 
-  pub part_all : (P : Y → Type 0) (w : List X) → All (λ x. T x ≡ true → P (g x)) w → All P (part T g w)
+  pub part_all : (P : Y → Type 0) (w : List X) → AllByRecursion (λ x. T x ≡ true → P (g x)) w → AllByRecursion P (part T g w)
   part_all P [] a = tt
   part_all P (x ∷ w) a = at (T x) refl (part_all P w a.1)
     where
-      at : (b : Bool) → T x ≡ b → All P (part T g w) → All P (cond b (g x ∷ part T g w) (part T g w))
+      at : (b : Bool) → T x ≡ b → AllByRecursion P (part T g w) → AllByRecursion P (cond b (g x ∷ part T g w) (part T g w))
       at true e h = (a.0 e, h)
       at false e h = h

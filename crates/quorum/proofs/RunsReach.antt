@@ -1,8 +1,8 @@
 -- Runs of moves are reached.
-use Rattle.std.proofs.Common.{◌≡◌, ℕ, zero, suc, ◌+◌, ◌*◌, ◌<◌, ◌≤◌, Bool, true, false, cond, not, ◌&&◌, ◌||◌, eqb, ltb, ◌⊎◌, List, [], ◌∷◌, ◌++◌, length, get_or, set, Some, None, Option, sym, refl, ap, ◌∙◌, subst, inl, inr, ⊎_elim, arith}
-use Rattle.std.proofs.lemmas.Bool.{and_parts, or_cases, ltb-true, eqb-true, not-true, cond_both, both_ways}
-use Rattle.quorum.specs.Frames.{Setting, Correct, some, Frame, new, mark, frame_at}
-use Rattle.quorum.specs.Machine.{Protocol, State, start, offering, received, Step, offer, take, feign, Reached, at_start, then_step}
+use Rattle.std.proofs.Common.{◌≡◌, ℕ, zero, suc, ◌<◌, Bool, true, false, not, eqb, List, [], ◌∷◌, length, get_or, Some, None, Option, sym, refl, ap, ◌∙◌, ⊎_elim, arith}
+use Rattle.std.proofs.lemmas.Bool.{and_parts, or_cases, ltb-true, eqb-true, not-true, cond_both}
+use Rattle.quorum.specs.Frames.{Setting, Correct, some, Frame, frame_at}
+use Rattle.quorum.specs.Machine.{Protocol, State, start, offer, take, feign, Reached, at_start, then_step}
 use Rattle.quorum.specs.Runs.{Move, offers, takes, feigns, good, took, moved, run, RunsReach}
 use Rattle.quorum.proofs.Basics.{clash_of, some_not_none, some_inj}
 

@@ -1,6 +1,6 @@
 -- The double echo broadcast of one identity. Assumes nothing.
-use Rattle.std.specs.Prelude.{◌≡◌, ℕ, ◌+◌, ◌*◌, ◌<◌, ◌≤◌, Bool, true, false, cond, not, ◌&&◌, ◌||◌, List, [], ◌∷◌, ◌++◌, Some, None, Option, ◌==◌, nat_lt}
-use Rattle.desks.specs.Sets.{one, how_many}
+use Rattle.std.specs.Prelude.{ℕ, ◌+◌, ◌*◌, Bool, true, false, cond, ◌&&◌, ◌||◌, List, ◌++◌, None, Option, ◌==◌, nat_lt}
+use Rattle.desks.specs.Sets.{how_many}
 use Rattle.quorum.specs.Frames.{Setting, is, other, settle, Frame, fresh}
 use Rattle.quorum.specs.Machine
 use Rattle.quorum.specs.Machine.{Protocol, Lawful}

@@ -1,6 +1,6 @@
 -- What holds of every state that the double echo broadcast comes to: the invariant from which the laws follow.
-use Rattle.std.specs.Prelude.{◌≡◌, ℕ, ◌+◌, ◌*◌, ◌<◌, ◌≤◌, Bool, true, false, cond, not, ◌&&◌, ◌||◌, List, [], ◌∷◌, ◌++◌, length, Some, None, Option, ◌==◌}
-use Rattle.std.specs.List.{AllByRecursion as All}
+use Rattle.std.specs.Prelude.{◌≡◌, ℕ, ◌+◌, ◌*◌, ◌<◌, ◌≤◌, Bool, true, cond, ◌&&◌, length, Some, None, Option, ◌==◌}
+use Rattle.std.specs.List.{AllByRecursion}
 use Rattle.desks.specs.Sets.{one, how_many}
 use Rattle.quorum.specs.Frames.{Setting, Correct, some, is, among, faults, Frame, on}
 use Rattle.quorum.specs.DoubleEcho.{Kind, init, echo, ready, eqk, Desk, State, votes}
@@ -48,6 +48,6 @@ pub record Sound {C : Type 0} (S : Setting C) (s : State C) : Type 0 where
   pub true_votes : (d : ℕ) → Correct S d → TrueVotes S s (s.desk d)
   pub backed : (d : ℕ) (x : C) → Correct S d → (s.desk d).ready_sent ≡ Some x → Backed S s x
   pub from_origin : (d : ℕ) (x : C) → Correct S d → Correct S S.origin → (s.desk d).echo_sent ≡ Some x → s.offered ≡ Some x
-  pub frames : All (Told S s) s.wire
+  pub frames : AllByRecursion (Told S s) s.wire
   pub posted : (p : ℕ) (k : Kind) → Correct S p → some (says S s p k) ≡ true → on (by p k) s.wire ≡ true
   pub sized : length s.wire ≤ how_many (λ q. some (s.desk q).echo_sent) S.n + how_many (λ q. some (s.desk q).ready_sent) S.n + one (some s.offered)

@@ -1,7 +1,7 @@
 -- What the two broadcasts share: who is faulty, the frames of one identity on the wire, and options. Assumes nothing.
-use Rattle.std.specs.Prelude.{◌≡◌, ℕ, zero, suc, ◌+◌, ◌*◌, ◌<◌, ◌≤◌, Bool, true, false, cond, not, ◌&&◌, ◌||◌, List, [], ◌∷◌, ◌++◌, Some, None, Option, ◌==◌}
-use Rattle.std.specs.List.{AllByRecursion as All}
-use Rattle.desks.specs.Sets.{one, how_many}
+use Rattle.std.specs.Prelude.{◌≡◌, ℕ, zero, suc, ◌<◌, ◌≤◌, Bool, true, false, cond, not, ◌&&◌, ◌||◌, List, [], ◌∷◌, Some, None, Option, ◌==◌}
+use Rattle.std.specs.List.{AllByRecursion}
+use Rattle.desks.specs.Sets.{how_many}
 
 -- The desks are 0 .. n - 1. `origin` is the desk of the identity, and `same` tells contents apart.
 pub record Setting (C : Type 0) : Type 0 where
@@ -82,7 +82,7 @@ on T (f ∷ w) = T f || on T w
 
 -- every frame was taken by every desk that is not faulty
 abbrev pub AllTaken : {K C : Type 0} → Setting C → List (Frame K C) → Type 0
-AllTaken S w = All (λ f. (d : ℕ) → Correct S d → f.taken d ≡ true) w
+AllTaken S w = AllByRecursion (λ f. (d : ℕ) → Correct S d → f.taken d ≡ true) w
 
 -- the frame at a place of the wire
 abbrev pub frame_at : {K C : Type 0} → List (Frame K C) → ℕ → Option (Frame K C)

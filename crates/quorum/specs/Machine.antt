@@ -1,5 +1,5 @@
 -- A broadcast of one identity as a machine: what a protocol has to say, the states, the steps, and what is claimed of the states. Assumes nothing.
-use Rattle.std.specs.Prelude.{◌≡◌, ℕ, ◌+◌, ◌*◌, ◌<◌, ◌≤◌, Bool, true, false, List, [], ◌∷◌, ◌++◌, length, Some, None, Option, slice_index_or, slice_set}
+use Rattle.std.specs.Prelude.{◌≡◌, ℕ, ◌+◌, ◌*◌, ◌<◌, ◌≤◌, true, List, [], ◌∷◌, ◌++◌, length, Some, None, Option, slice_index_or, slice_set}
 use Rattle.quorum.specs.Frames.{Setting, Valid, Correct, put, Frame, new, mark, AllTaken}
 
 -- A protocol over what a desk holds, D, the kinds of its frames, K, and the contents, C.

@@ -1,6 +1,6 @@
 -- A broadcast as a function of moves, and a sample run of the double echo. Assumes nothing.
-use Rattle.std.specs.Prelude.{◌≡◌, ℕ, ◌+◌, ◌*◌, ◌<◌, ◌≤◌, Bool, true, false, cond, not, ◌&&◌, ◌||◌, List, [], ◌∷◌, ◌++◌, length, Some, None, Option, ◌==◌, nat_eq, nat_lt, slice_set}
-use Rattle.quorum.specs.Frames.{Setting, some, Frame, new, mark, frame_at}
+use Rattle.std.specs.Prelude.{◌≡◌, ℕ, Bool, true, false, cond, not, ◌&&◌, ◌||◌, List, [], ◌∷◌, ◌++◌, length, Some, None, Option, ◌==◌, nat_eq, nat_lt, slice_set}
+use Rattle.quorum.specs.Frames.{Setting, some, Frame, mark, frame_at}
 use Rattle.quorum.specs.Machine.{Protocol, State, start, offering, received, Reached}
 use Rattle.quorum.specs.DoubleEcho.{Kind, init, echo, ready, Desk, double_echo}
 

@@ -1,8 +1,8 @@
 -- A command that is read stands at its position, and one that stands there is read.
-use Rattle.std.proofs.Common.{◌≡◌, ℕ, zero, suc, ◌+◌, ◌-◌, ◌*◌, ◌/◌, ◌%◌, ◌^◌, ◌<◌, ◌≤◌, min, Bool, true, false, cond, not, eqb, ltb, ◌⊎◌, List, [], ◌∷◌, ◌++◌, length, get_or, take, drop, Some, None, Ok, Err, Option, Result, sym, refl, ap, ◌∙◌, subst, inl, inr, ⊎_elim, arith, to_z-of_z, w32, Fits, SFits, to_z, of_z}
+use Rattle.std.proofs.Common.{◌≡◌, ℕ, zero, suc, ◌+◌, ◌*◌, ◌/◌, ◌%◌, ◌^◌, ◌<◌, ◌≤◌, true, false, List, [], ◌∷◌, length, get_or, take, drop, Some, None, Ok, Err, Option, Result, sym, refl, ap, ◌∙◌, ⊎_elim, arith, to_z-of_z, w32, Fits, to_z, of_z}
 use mir.Facts.{sfits_to_z, of_z-to_z}
 use Rattle.std.proofs.lemmas.List.{drop_more, length-take, length-drop, get_or-take, get_or-drop}
-use Rattle.std.proofs.lemmas.Bool.{cases_Bool, cases_lt, ltb-true, ltb-false, lt-ltb, le-ltb, eqb-true, not-true, not-false}
+use Rattle.std.proofs.lemmas.Bool.{cases_Bool, cases_lt, lt-ltb, le-ltb}
 use Rattle.std.proofs.lemmas.Bool.Decides.{nat_tests}
 use Rattle.reader.specs.declared.command.Stage.{Stage}
 use Rattle.reader.specs.declared.command.Kind.{Kind}
@@ -12,9 +12,9 @@ use Rattle.reader.specs.declared.command.Command.TheVariants.{Form, Opening, Ope
 use Rattle.reader.specs.declared.faults.ScriptFault.{ScriptFault}
 use Rattle.reader.specs.declared.faults.ScriptFault.TheVariants as fault
 use Rattle.reader.specs.Kinds.{kind_of, allows}
-use Rattle.reader.specs.Commands.{encode, command_at, operand_bytes, two_at, four_at, two_bytes, four_bytes, read, read_kind, position_after}
+use Rattle.reader.specs.Commands.{encode, command_at, operand_bytes, two_at, four_at, four_bytes, read, read_kind, position_after}
 use Rattle.reader.specs.Readings.{Bytes}
-use Rattle.reader.specs.Laws.{FormFits, OpeningFits, Stands, Fitting, kind_of_command, offset_of, ReadsWhatStands, WhatStandsIsRead, FaultStays, MovesInside}
+use Rattle.reader.specs.Laws.{Stands, offset_of, ReadsWhatStands, WhatStandsIsRead, FaultStays, MovesInside}
 
 -- the letter of a kind
 abbrev pub letter : Kind → ℕ

@@ -1,12 +1,11 @@
 -- Lines added one by one, and what a book answers of a figure.
-use Rattle.std.proofs.Common.{◌≡◌, ℕ, suc, ◌+◌, ◌<◌, Bool, true, false, cond, ltb, leb, List, [], ◌∷◌, ◌++◌, get_or, ℤ, pos, Some, None, Ok, Err, Option, sym, refl, ap, ◌∙◌, append_assoc, append-nil, add-one, arith}
+use Rattle.std.proofs.Common.{◌≡◌, ℕ, ◌+◌, ◌<◌, Bool, true, false, cond, leb, List, [], ◌∷◌, ◌++◌, get_or, pos, Some, sym, refl, ap, ◌∙◌, append_assoc, append-nil, add-one}
 use Rattle.std.specs.Result.{result_unwrap_or}
-use Rattle.std.proofs.lemmas.Bool.{leb-true, leb-false, lt-leb}
+use Rattle.std.proofs.lemmas.Bool.{leb-true, lt-leb}
 use Rattle.desks.specs.Firsts.{first, unless}
 use Rattle.account.specs.declared.lines.Line.{Line}
 use Rattle.book.specs.Model.{BookModel}
 use Rattle.book.specs.Calls.{rules_of, figure_reply}
-use Rattle.book.specs.declared.faults.BookFault.{BookFault}
 use Rattle.book.specs.declared.faults.BookFault.TheVariants.{Desk, Figure}
 use Rattle.desks.specs.Sets.{has_desk}
 use Rattle.script.specs.Days.{each, by_correct}

@@ -1,12 +1,12 @@
 -- A day on a book that was just made.
-use Rattle.std.proofs.Common.{◌≡◌, ℕ, ◌≤◌, Bool, true, false, cond, ltb, List, [], replicate, ℤ, pos, Option, sym, refl, ap, ◌∙◌, arith}
+use Rattle.std.proofs.Common.{◌≡◌, ℕ, Bool, true, false, cond, ltb, List, [], replicate, ℤ, pos, Option, refl, ap, arith}
 use mathlib.Core.Path.{fun_ext}
 use Rattle.std.proofs.lemmas.Bool.{ltb-true, ltb-false}
 use Rattle.desks.specs.declared.group.GroupParameters.{GroupParameters}
 use Rattle.book.specs.Model.{BookModel}
 use Rattle.book.specs.Calls.{Made}
 use Rattle.reader.specs.declared.command.Stage.TheVariants.{Set}
-use Rattle.script.specs.Days.{Day, new_day}
+use Rattle.script.specs.Days.{new_day}
 use Rattle.script.specs.Meaning.{day_of}
 
 pub fresh : {B : Type 0} (m : BookModel B) (needs : List ℤ → Option ℤ) (b : B) (g : GroupParameters) (memory : List ℕ) → Made m g.desks memory b → day_of m needs (record { book = b; faulty = g.faulty; stage = Set }) ≡ new_day (m.rules g.desks) needs g

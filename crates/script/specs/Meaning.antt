@@ -1,5 +1,5 @@
 -- The day that a book, its faulty desks and its stage mean. Assumes nothing.
-use Rattle.std.specs.Prelude.{◌≡◌, ℕ, List, ℤ, Option, Result}
+use Rattle.std.specs.Prelude.{◌≡◌, List, ℤ, Option, Result}
 use Rattle.std.specs.Option.{option_map}
 use Rattle.desks.specs.Firsts.{first, unless}
 use Rattle.floor.specs.declared.faults.FloorFault.{FloorFault}
@@ -7,7 +7,6 @@ use Rattle.floor.specs.declared.faults.FloorFault.TheVariants.{Book}
 use Rattle.reader.specs.declared.command.Opening as opening
 use Rattle.book.specs.Model.{BookModel}
 use Rattle.book.specs.Calls.{opening_tests}
-use Rattle.reader.specs.declared.command.Stage.{Stage}
 use Rattle.script.specs.declared.day.Day as code
 use Rattle.script.specs.Days.{Day, opened}
 

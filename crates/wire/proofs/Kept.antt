@@ -1,18 +1,17 @@
 -- The frames of a wire, from the entries of its log.
-use Rattle.std.proofs.Common.{◌≡◌, ℕ, zero, suc, ◌+◌, ◌-◌, ◌<◌, ◌≤◌, Bool, true, false, cond, ◌&&◌, eqb, ltb, leb, List, [], ◌∷◌, ◌++◌, map, length, take, set, is_some, Some, None, Option, sym, refl, ap, ◌∙◌, subst, ⊎_elim, arith}
+use Rattle.std.proofs.Common.{◌≡◌, ℕ, zero, suc, ◌-◌, ◌<◌, ◌≤◌, Bool, true, false, cond, eqb, ltb, leb, List, [], ◌∷◌, ◌++◌, map, length, set, is_some, Some, None, sym, refl, ap, ◌∙◌, arith}
 use Rattle.std.proofs.lemmas.List.{length-map, map-append, map-set}
-use Rattle.std.proofs.lemmas.Bool.{cond-true, cond-false, cases_Bool, lt-ltb, ltb-true, le-ltb, eq-eqb, le-leb, true≢false}
+use Rattle.std.proofs.lemmas.Bool.{cond-true, lt-ltb, le-ltb, eq-eqb, le-leb, true≢false}
 use Rattle.std.proofs.lemmas.Bool.Decides.{nat_tests}
 use Rattle.std.specs.List.{slice_get}
 use Rattle.std.specs.Option.{option_map}
 use Rattle.frame.specs.declared.kinds.Kind.{Kind}
-use Rattle.lent_log.specs.declared.Log.{Log}
 use Rattle.lent_log.specs.Entries.{entries_of, size_of, room_of, entry_at}
 use Rattle.lent_log.specs.Changes as log
 use Rattle.lent_log.proofs.Sizes.{size_within}
 use Rattle.wire.specs.declared.sent.Sent.{Sent}
 use Rattle.wire.specs.declared.wire.Wire.{Wire}
-use Rattle.wire.specs.Posted.{Posted, posted, new_frame, marked, TakenBy, frames, places}
+use Rattle.wire.specs.Posted.{posted, new_frame, marked, TakenBy, frames, places}
 use Rattle.wire.specs.Changes.{Marks, Posts}
 
 pub nth_map : {X Y : Type 0} (g : X → Y) (xs : List X) (i : ℕ) → option_map g (slice_get xs i) ≡ slice_get (map g xs) i

@@ -1,4 +1,4 @@
-use Rattle.std.proofs.Common.{◌≡◌, ℕ, false, cond, not, ◌&&◌, eqb, ◌++◌, Some, None, Ok, Err, sym, refl, ap, ◌∙◌, rules}
+use Rattle.std.proofs.Common.{◌≡◌, ℕ, false, cond, not, ◌&&◌, eqb, ◌++◌, Some, Err, sym, refl, ap, ◌∙◌}
 use Rattle.std.specs.Option.{option_map}
 use Rattle.desks.specs.declared.group.GroupParameters.{GroupParameters}
 use Rattle.desks.specs.declared.faults.FormFault.{FormFault}

@@ -1,4 +1,4 @@
-use Rattle.std.proofs.Common.{◌≡◌, [], ◌∷◌, ◌++◌, vec_items, sym, refl, ap, ◌∙◌}
+use Rattle.std.proofs.Common.{[], ◌∷◌, ◌++◌, vec_items, ap, ◌∙◌}
 use Rattle.account.specs.declared.lines.Line.TheVariants.{Refused}
 use Rattle.reader.specs.Refusals.{script_refusal}
 use Rattle.script.proofs.Steps.{fetched, fetched_fault}

@@ -1,4 +1,4 @@
-use Rattle.std.proofs.Common.{◌≡◌, vec_items, sym, refl, ap, ◌∙◌, rules}
+use Rattle.std.proofs.Common.{vec_items, sym, ap, ◌∙◌}
 use Rattle.book.specs.Calls.{rules_of}
 use Rattle.script.specs.Days.{figure_lines}
 use Rattle.script.proofs.Each.{correct_turn, faulty_turn}

@@ -1,4 +1,4 @@
-use Rattle.std.proofs.Common.{◌≡◌, ltb, ◌++◌, None, vec_items, sym, refl, ap, ◌∙◌, rules}
+use Rattle.std.proofs.Common.{ltb, ◌++◌, None, vec_items, sym, ap, ◌∙◌}
 use Rattle.std.proofs.lemmas.Bool.{cond-true, lt-ltb}
 use Rattle.script.specs.Days.{need_line}
 use Rattle.script.proofs.Each.{correct_turn, faulty_turn}

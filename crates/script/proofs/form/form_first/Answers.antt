@@ -1,4 +1,4 @@
-use Rattle.std.proofs.Common.{◌≡◌, [], ◌∷◌, ◌++◌, Some, None, Ok, Err, vec_items, sym, refl, ap, ◌∙◌, subst}
+use Rattle.std.proofs.Common.{◌≡◌, [], ◌∷◌, ◌++◌, Some, None, Ok, vec_items, sym, ap, ◌∙◌, subst}
 use Rattle.account.specs.declared.lines.Line.TheVariants.{Refused}
 use Rattle.reader.specs.declared.command.Command.TheVariants.{Form}
 use Rattle.reader.specs.declared.command.Stage.TheVariants.{Unformed}

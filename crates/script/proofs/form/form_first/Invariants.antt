@@ -1,4 +1,4 @@
-use Rattle.std.proofs.Common.{◌≡◌, ℕ, ◌-◌, ◌≤◌, ◌++◌, length, None, vec_items}
+use Rattle.std.proofs.Common.{◌≡◌, ◌-◌, ◌≤◌, ◌++◌, length, None, vec_items}
 use Rattle.script.specs.Days.{lines_from}
 use Rattle.script.proofs.form.form_first.Given as goal
 

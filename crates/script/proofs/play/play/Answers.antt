@@ -1,4 +1,4 @@
-use Rattle.std.proofs.Common.{◌≡◌, ◌≤◌, ◌++◌, length, Some, vec_items, sym, refl, ap, ◌∙◌, subst}
+use Rattle.std.proofs.Common.{◌≡◌, ◌++◌, Some, vec_items, ap, ◌∙◌, subst}
 use Rattle.script.specs.Days.{day_lines}
 use Rattle.script.specs.Meaning.{day_of}
 use Rattle.script.specs.Turns.{Fetches}

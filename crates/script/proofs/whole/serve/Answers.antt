@@ -1,4 +1,4 @@
-use Rattle.std.proofs.Common.{◌≡◌, ◌++◌, Some, vec_items, sym, refl, ap, ◌∙◌}
+use Rattle.std.proofs.Common.{◌++◌, Some, vec_items, ap, ◌∙◌}
 use Rattle.script.specs.Days.{lines_from}
 use Rattle.script.proofs.Fresh.{fresh}
 use Rattle.script.proofs.whole.serve.Goals as goal

@@ -1,4 +1,4 @@
-use Rattle.std.proofs.Common.{◌≡◌, ℕ, ◌^◌, ◌<◌, ◌≤◌, true, false, not, leb, List, get_or, ℤ, pos, ◌-ℤ◌, neg_ℤ, None, sym, refl, ap, ◌∙◌, subst, arith, w32, w64, SFits, to_z, of_z, rules}
+use Rattle.std.proofs.Common.{◌≡◌, ℕ, ◌^◌, ◌<◌, true, false, leb, get_or, ℤ, pos, ◌-ℤ◌, neg_ℤ, None, sym, refl, ap, ◌∙◌, subst, arith, w64, to_z, of_z, rules}
 use lib.IntN.{+ℤ_idl}
 use lib.Signed.{le_z}
 use Rattle.std.proofs.lemmas.Int.{to_z-of_z, to_z_pos, ints}

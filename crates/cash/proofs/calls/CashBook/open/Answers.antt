@@ -1,6 +1,6 @@
-use Rattle.std.proofs.Common.{◌≡◌, ◌*◌, ◌<◌, ◌≤◌, Bool, false, ◌||◌, leb, length, set, ℤ, pos, negsuc, nat_abs, None, sym, refl, ap, ◌∙◌, subst, arith, w32, w64, SFits, to_z, of_z, rules}
+use Rattle.std.proofs.Common.{◌≡◌, ◌*◌, ◌≤◌, false, leb, set, pos, nat_abs, None, sym, refl, ap, ◌∙◌, subst, w32, w64, to_z, of_z}
 use lib.Signed.{lt_z}
-use Rattle.std.proofs.lemmas.Int.{to_z-of_z, ints}
+use Rattle.std.proofs.lemmas.Int.{to_z-of_z}
 use Rattle.std.proofs.lemmas.Bool.{lt-leb}
 use Rattle.desks.specs.Firsts.{first}
 use Rattle.desks.proofs.Passed.{done}

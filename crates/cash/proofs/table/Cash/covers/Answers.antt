@@ -1,4 +1,4 @@
-use Rattle.std.proofs.Common.{◌≡◌, pos, sym, refl, ap, ◌∙◌, arith, w64, SFits, to_z, of_z, rules}
+use Rattle.std.proofs.Common.{pos, sym, ap, ◌∙◌, w64, SFits, to_z, of_z, rules}
 use lib.Signed.{le_z}
 use Rattle.std.proofs.lemmas.Int.{to_z-of_z, to_z_pos}
 use Rattle.ledger.proofs.Listed.{get_or_figures}

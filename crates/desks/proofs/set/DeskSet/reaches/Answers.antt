@@ -1,5 +1,5 @@
-use Rattle.std.proofs.Common.{◌≡◌, ◌/◌, ◌^◌, true, false, not, ◌&&◌, eqb, ltb, sym, refl, ap, arith, rules}
-use Rattle.std.proofs.lemmas.Bool.{lt-ltb, le-ltb, false≢true}
+use Rattle.std.proofs.Common.{◌≡◌, true, false, ltb, refl, rules}
+use Rattle.std.proofs.lemmas.Bool.{false≢true}
 use Rattle.desks.specs.Sets.{beyond}
 use Rattle.desks.proofs.Bits.{reaches_is, none_past}
 use Rattle.desks.proofs.set.DeskSet.reaches.Goals as goal

@@ -1,4 +1,4 @@
-use Rattle.std.proofs.Common.{◌≡◌, ℕ, ◌<◌, ◌≤◌, true, false, not, leb, List, None, sym, refl, ap, ◌∙◌, subst, arith, w32, w64, SFits, to_z, of_z, rules}
+use Rattle.std.proofs.Common.{◌≡◌, ◌<◌, false, leb, None, refl, ap, ◌∙◌, subst, w32, SFits, rules}
 use Rattle.std.proofs.lemmas.Bool.{leb-false, lt-leb}
 use Rattle.desks.specs.Firsts.{first}
 use Rattle.desks.proofs.Passed.{passed, unless_ok, done}

@@ -1,9 +1,8 @@
-use Rattle.std.proofs.Common.{◌≡◌, ◌<◌, ◌≤◌, false, leb, nat_abs, Ok, sym, refl, ap, ◌∙◌, subst, arith, w64, SFits, rules}
+use Rattle.std.proofs.Common.{◌≡◌, ◌≤◌, false, leb, nat_abs, Ok, sym, ap, ◌∙◌, subst, w64, SFits, rules}
 use Rattle.std.proofs.lemmas.Int.{to_z-of_z}
 use Rattle.std.proofs.lemmas.Bool.{lt-leb}
 use Rattle.desks.proofs.Passed.{passed}
 use Rattle.ledger.proofs.Listed.{get_or_figures}
-use Rattle.book.specs.declared.faults.BookFault.TheVariants.{Desk}
 use Rattle.positions.specs.Positions.{position_limit}
 use Rattle.positions.specs.Model.{positions_sound}
 use Rattle.positions.proofs.calls.PositionsBook.figure.Goals as goal

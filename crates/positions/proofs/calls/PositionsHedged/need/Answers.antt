@@ -1,10 +1,10 @@
-use Rattle.std.proofs.Common.{◌≡◌, ℕ, ◌+◌, ◌*◌, ◌<◌, ◌≤◌, false, leb, length, get_or, take, ℤ, pos, ◌+ℤ◌, ◌-ℤ◌, neg_ℤ, nat_abs, Ok, sym, refl, ap, ◌∙◌, subst, arith, w64, SFits, to_z, of_z, rules}
+use Rattle.std.proofs.Common.{◌≡◌, ℕ, ◌+◌, ◌*◌, ◌<◌, ◌≤◌, false, leb, get_or, take, ℤ, pos, ◌+ℤ◌, ◌-ℤ◌, neg_ℤ, nat_abs, Ok, sym, ap, ◌∙◌, subst, arith, w64, SFits, to_z, of_z, rules}
 use lib.IntN.{+ℤ_idl}
 use Rattle.std.proofs.lemmas.Int.{to_z-of_z, ints}
 use Rattle.std.proofs.lemmas.List.{take_all}
 use Rattle.std.proofs.lemmas.Bool.{leb-false, lt-leb}
 use Rattle.desks.proofs.Passed.{passed}
-use Rattle.ledger.specs.Figures.{figure_at, figures}
+use Rattle.ledger.specs.Figures.{figures}
 use Rattle.ledger.proofs.Listed.{get_or_figures, length_figures}
 use Rattle.book.specs.Rules.{total}
 use Rattle.book.proofs.Shifts.{total_more}

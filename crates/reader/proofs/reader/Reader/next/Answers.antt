@@ -1,4 +1,4 @@
-use Rattle.std.proofs.Common.{◌≡◌, ℕ, true, is_some, Some, None, Ok, Err, Option, Result, refl, arith, rules}
+use Rattle.std.proofs.Common.{◌≡◌, ℕ, Some, None, Ok, Err, Option, Result, refl, arith, rules}
 use Rattle.reader.specs.declared.command.Command.{Command}
 use Rattle.reader.specs.declared.faults.ScriptFault.{ScriptFault}
 use Rattle.reader.specs.declared.faults.ScriptFault.TheVariants as fault

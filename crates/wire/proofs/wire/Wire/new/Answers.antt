@@ -1,4 +1,4 @@
-use Rattle.std.proofs.Common.{◌≡◌, map, length, refl, ap}
+use Rattle.std.proofs.Common.{map, length, refl, ap}
 use Rattle.wire.specs.Posted.{posted, frames}
 use Rattle.wire.proofs.wire.Wire.new.Goals as goal
 

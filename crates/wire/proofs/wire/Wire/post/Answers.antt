@@ -1,5 +1,4 @@
 use Rattle.std.proofs.Common.{◌≡◌, ◌≤◌, length, refl, arith}
-use Rattle.wire.specs.declared.wire.Wire.{Wire}
 use Rattle.wire.proofs.Kept.{posting}
 use Rattle.wire.proofs.wire.Wire.post.Goals as goal
 
