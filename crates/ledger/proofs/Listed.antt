@@ -60,8 +60,8 @@ figures_made n w m l p d h =
     figures_are l d (replicate w (pos 0)) (omega arith) (length-replicate w (pos 0) ∙ sym u) (λ i k. p.figures d i ∙ sym (get_or-replicate w i (pos 0) (pos 0) (omega arith)))
 
 -- a place of a list after one was set
-get_d_set : (xs : List ℤ) (i j : ℕ) (v : ℤ) → j < length xs → get_or (set xs i v) j (pos 0) ≡ cond (eqb j i) v (get_or xs j (pos 0))
-get_d_set xs i j v h = ⊎_elim same other (cases_eq j i) where
+get_or_set : (xs : List ℤ) (i j : ℕ) (v : ℤ) → j < length xs → get_or (set xs i v) j (pos 0) ≡ cond (eqb j i) v (get_or xs j (pos 0))
+get_or_set xs i j v h = ⊎_elim same other (cases_eq j i) where
   same : j ≡ i → get_or (set xs i v) j (pos 0) ≡ cond (eqb j i) v (get_or xs j (pos 0))
   same e =
       ap (λ k. get_or (set xs i v) k (pos 0)) e
@@ -83,7 +83,7 @@ figures_put l l' d i v p q f = ⊎_elim in_desks past_desks (cases_lt d l.desks)
       figures_are l' d (set (figures l d) i v) (omega arith) (length-set (figures l d) i v ∙ n ∙ sym q) (λ j k.
       f j (omega arith)
       ∙ ap (cond (eqb j i) v) (sym (get_or_figures l d j))
-      ∙ sym (get_d_set (figures l d) i j v (omega arith)))
+      ∙ sym (get_or_set (figures l d) i j v (omega arith)))
 
 -- what `set` makes of the lists
 pub figures_set : (l : Ledger) (d i : ℕ) (v : ℤ) (r : Bool) (l' : Ledger) → Set l d i v r l' → (e : ℕ) → figures l' e ≡ cond (r && eqb e d) (set (figures l e) i v) (figures l e)

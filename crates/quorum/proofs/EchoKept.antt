@@ -116,7 +116,7 @@ module _ {C : Type 0} (S : Setting C) (F : Valid S) where
     receive_is = cond-false _ _ _ no_clash
 
     -- The state after, given by what it holds.
-    module _ (enough : 3 * S.t < S.n) (s' : State C) (at_d : s'.desk d ≡ answered S (recorded (s.desk d) p k c) k c) (at_others : (q : ℕ) → (q ≡ d → ⊥) → s'.desk q ≡ s.desk q) (same-offer : s'.offered ≡ s.offered) where
+    module _ (enough : 3 * S.t < S.n) (s' : State C) (at_d : s'.desk d ≡ answered S (recorded (s.desk d) p k c) k c) (at_others : (q : ℕ) → (q ≡ d → ⊥) → s'.desk q ≡ s.desk q) (same_offer : s'.offered ≡ s.offered) where
       each : (P : ℕ → Desk C → Type 0) → P d (answered S (recorded (s.desk d) p k c) k c) → ((q : ℕ) → (q ≡ d → ⊥) → P q (s.desk q)) → (q : ℕ) → P q (s'.desk q)
       each P h g q = ⊎_elim (λ e. subst (λ y. P y (s'.desk y)) (sym e) (subst (P d) (sym at_d) h)) (λ ne. subst (P q) (sym (at_others q ne)) (g q ne)) (cases_eq q d)
 
@@ -124,7 +124,7 @@ module _ {C : Type 0} (S : Setting C) (F : Valid S) where
       grown = each (λ q D. Grown (s.desk q) D) (now_grown (s.desk d) p k c (sound.settled d gd)) (λ q ne. record { echoes = λ _ x e. e; readies = λ _ x e. e; echo_sent = λ x e. e; ready_sent = λ x e. e })
 
       says_grown : (q : ℕ) (l : Kind) (x : C) → says S s q l ≡ Some x → says S s' q l ≡ Some x
-      says_grown q init x e = rw same-offer e
+      says_grown q init x e = rw same_offer e
       says_grown q echo x e = (grown q).echo_sent x e
       says_grown q ready x e = (grown q).ready_sent x e
 
@@ -165,7 +165,7 @@ module _ {C : Type 0} (S : Setting C) (F : Valid S) where
           rw (eq-eqb S.origin S.origin refl) at said2
 
       from_origin' : (q : ℕ) (x : C) → Correct S q → Correct S S.origin → (s'.desk q).echo_sent ≡ Some x → s'.offered ≡ Some x
-      from_origin' q x g o e = rw same-offer (each (λ y D. (z : C) → Correct S y → D.echo_sent ≡ Some z → s.offered ≡ Some z)
+      from_origin' q x g o e = rw same_offer (each (λ y D. (z : C) → Correct S y → D.echo_sent ≡ Some z → s.offered ≡ Some z)
           (λ z gz h. ⊎_elim (λ a. sound.from_origin d z gd o a)
           (λ a. ⊎_elim (λ i. init_true i o) (λ hv. echo_true c o (heavy_backs S F s sound (recorded (s.desk d) p k c) now_true c hv)) (or_cases _ _ a.0) ∙ ap Some (sym a.1))
           (settle_cases _ _ c z h))
@@ -206,7 +206,7 @@ module _ {C : Type 0} (S : Setting C) (F : Valid S) where
       told_fresh l x e = record { sent_by = gd; said = e; heard = λ q g y. clash_of false y refl }
 
       -- The wire: w is the wire before, perhaps with a mark.
-      module _ (w : List (Frame Kind C)) (told : AllByRecursion (Told S s') w) (still-on : (q : ℕ) (l : Kind) → on (by q l) s.wire ≡ true → on (by q l) w ≡ true) (as_long : length w ≡ length s.wire) (wire_is : s'.wire ≡ w ++ sends d (s.desk d) (s'.desk d)) where
+      module _ (w : List (Frame Kind C)) (told : AllByRecursion (Told S s') w) (still_on : (q : ℕ) (l : Kind) → on (by q l) s.wire ≡ true → on (by q l) w ≡ true) (as_long : length w ≡ length s.wire) (wire_is : s'.wire ≡ w ++ sends d (s.desk d) (s'.desk d)) where
         frames' : AllByRecursion (Told S s') s'.wire
         frames' = subst (AllByRecursion (Told S s')) (sym wire_is) (All-append (Told S s') w (sends d (s.desk d) (s'.desk d)) told (All-append (Told S s') echoed readied
             (fresh_all (Told S s') d echo (s.desk d).echo_sent (s'.desk d).echo_sent (λ x e. told_fresh echo x e))
@@ -219,10 +219,10 @@ module _ {C : Type 0} (S : Setting C) (F : Valid S) where
             readied = fresh d ready (s.desk d).ready_sent (s'.desk d).ready_sent
 
         on_old : (q : ℕ) (l : Kind) → Correct S q → some (says S s q l) ≡ true → on (by q l) s'.wire ≡ true
-        on_old q l g h = rw wire_is (on_append (by q l) w _ (inl (still-on q l (sound.posted q l g h))))
+        on_old q l g h = rw wire_is (on_append (by q l) w _ (inl (still_on q l (sound.posted q l g h))))
 
         posted' : (q : ℕ) (l : Kind) → Correct S q → some (says S s' q l) ≡ true → on (by q l) s'.wire ≡ true
-        posted' q init g h = on_old q init g (rw same-offer at h)
+        posted' q init g h = on_old q init g (rw same_offer at h)
         posted' q echo g h = ⊎_elim
             (λ (e : q ≡ d). ⊎_elim (λ a. on_old q echo g (rw e a)) (λ a. rw wire_is (on_append (by q echo) w _ (inr (on_append (by q echo) _ _ (inl (subst (λ y. on (by y echo) (fresh d echo (s.desk d).echo_sent (s'.desk d).echo_sent) ≡ true) (sym e) a)))))) (fresh_on (by d echo) d echo (s.desk d).echo_sent (s'.desk d).echo_sent (λ x. and_from _ _ (eq-eqb d d refl) refl) (subst (λ y. some (s'.desk y).echo_sent ≡ true) e h)))
             (λ ne. on_old q echo g (subst (λ y. some y.echo_sent ≡ true) (at_others q ne) h))
@@ -233,7 +233,7 @@ module _ {C : Type 0} (S : Setting C) (F : Valid S) where
             (cases_eq q d)
 
         sized' : length s'.wire ≤ how_many (λ q. some (s'.desk q).echo_sent) S.n + how_many (λ q. some (s'.desk q).ready_sent) S.n + one (some s'.offered)
-        sized' = rw (wire_is, same-offer) (simp (length-append, as_long) (omega (
+        sized' = rw (wire_is, same_offer) (simp (length-append, as_long) (omega (
           arith,
           sound.sized,
           cnt_point (λ q. some (s.desk q).echo_sent) (λ q. some (s'.desk q).echo_sent) d S.n gd.known (λ q l ne e. rw (at_others q ne) e),
@@ -258,10 +258,10 @@ module _ {C : Type 0} (S : Setting C) (F : Valid S) where
     receive_keeps : (s : State C) → Sound S s → (w : List (Frame Kind C)) (d p : ℕ) (k : Kind) (c : C) → Correct S d → Genuine S s p k c →
         ((s' : State C) → ((f : Frame Kind C) → Told S s f → Told S s' f) → ((f : Frame Kind C) → f.sender ≡ p → f.kind ≡ k → f.content ≡ c → Told S s f → Told S s' (mark d f)) → AllByRecursion (Told S s') w) →
         ((q : ℕ) (l : Kind) → on (by q l) s.wire ≡ true → on (by q l) w ≡ true) → length w ≡ length s.wire → Sound S (received double_echo S s w d p k c)
-    receive_keeps s sound w d p k c gd genuine told still-on as_long =
+    receive_keeps s sound w d p k c gd genuine told still_on as_long =
         received_sound s sound d gd p k c genuine enough s' at_d at_others refl w
         (told s' (told_grown s sound d gd p k c genuine enough s' at_d at_others refl) (told_marked s sound d gd p k c genuine enough s' at_d at_others refl))
-        still-on as_long wire_is
+        still_on as_long wire_is
       where
         s' : State C
         s' = received double_echo S s w d p k c

@@ -6,7 +6,7 @@ use Rattle.quorum.specs.Machine.{Protocol, State, start, offer, take, feign, Rea
 use Rattle.quorum.specs.Runs.{Move, offers, takes, feigns, good, took, moved, run, RunsReach}
 use Rattle.quorum.proofs.Basics.{clash_of, some_not_none, some_inj}
 
-module _ {D K C : Type 0} (P : Protocol D K C) (firstly : K → Bool) (is-first : firstly P.first ≡ true) (S : Setting C) where
+module _ {D K C : Type 0} (P : Protocol D K C) (firstly : K → Bool) (is_first : firstly P.first ≡ true) (S : Setting C) where
   good_is : (d : ℕ) → good S d ≡ true → Correct S d
   good_is d e = let r = and_parts _ _ e in record { known = ltb-true _ _ r.0; honest = not-true _ r.1 }
 
@@ -27,11 +27,11 @@ module _ {D K C : Type 0} (P : Protocol D K C) (firstly : K → Bool) (is-first 
       at (Some f) e g = let r = stands s.wire i f e in then_step h (take d i f g r.0 r.1)
       at None e g = h
   moves s (feigns d p k c) h = cond_both _ _ _ (Reached P S) (λ e. let r = and_parts _ _ e in let q = and_parts _ _ r.1 in let u = and_parts _ _ q.0 in
-      then_step h (feign d p k c (good_is d r.0) (ltb-true _ _ u.0) u.1 (λ ki. ⊎_elim (λ a. clash_of (firstly k) (ap firstly ki ∙ is-first) (not-true _ a)) (λ a. eqb-true _ _ a) (or_cases (not (firstly k)) (eqb p S.origin) q.1)))) (λ _. h)
+      then_step h (feign d p k c (good_is d r.0) (ltb-true _ _ u.0) u.1 (λ ki. ⊎_elim (λ a. clash_of (firstly k) (ap firstly ki ∙ is_first) (not-true _ a)) (λ a. eqb-true _ _ a) (or_cases (not (firstly k)) (eqb p S.origin) q.1)))) (λ _. h)
 
   runs : (s : State D K C) (ms : List (Move K C)) → Reached P S s → Reached P S (run P firstly S s ms)
   runs s [] h = h
   runs s (m ∷ ms) h = runs (moved P firstly S s m) ms (moves s m h)
 
 pub runs_reach : {D K C : Type 0} → RunsReach D K C
-runs_reach P firstly is-first S ms = runs P firstly is-first S (start P) ms at_start
+runs_reach P firstly is_first S ms = runs P firstly is_first S (start P) ms at_start
