@@ -10,7 +10,7 @@ use Rattle.wire.specs.Posted.{Posted, marked, new_frame}
 use Rattle.carrier.specs.declared.faults.CarrierFault.{CarrierFault}
 use Rattle.carrier.specs.declared.faults.CarrierFault.TheVariants.{Second}
 use Rattle.carrier.specs.Meaning.{Content, Meaning}
-use Rattle.carrier.specs.Declines.{offer_tests, take_tests, feign_tests}
+use Rattle.carrier.specs.Declines.{most_sent, offer_tests, take_tests, feign_tests}
 
 -- the frames sent, and whether a content was accepted
 abbrev pub Reply : Type 0
@@ -32,11 +32,11 @@ pub record Fresh (d o k : ℕ) (c : Content) (f : Posted) : Type 0 where
   pub content : f.content ≡ c
   pub untaken : (e : ℕ) → f.taken e ≡ false
 
--- the wire goes on after `before` with so many new frames, at most two
+-- the wire goes on after `before` with so many new frames, at most as many as a desk sends
 pub record Adds (before after : List Posted) (d o k : ℕ) (c : Content) (sent : ℕ) : Type 0 where
   pub frames : List Posted
   pub count : length frames ≡ sent
-  pub few : sent ≤ 2
+  pub few : sent ≤ most_sent
   pub whole : after ≡ before ++ frames
   pub fresh : AllByRecursion (Fresh d o k c) frames
 

@@ -4,7 +4,7 @@ use Rattle.desks.specs.declared.group.Group.{Group}
 use Rattle.desks.specs.declared.faults.Parameter.TheVariants.{Desks, Numbers}
 use Rattle.desks.specs.declared.faults.FormFault.{FormFault}
 use Rattle.desks.specs.declared.faults.FormFault.TheVariants.{Range, Memory}
-use Rattle.desks.specs.Firsts.{Tests, lifted}
+use Rattle.desks.specs.Firsts.{Tests, tests_above}
 use Rattle.desks.specs.Forming.{outside, ranges, bounds, parameters_under}
 use Rattle.desks.specs.Sizes.{item_size}
 use Rattle.frame.specs.declared.kinds.Kinds.{Kinds}
@@ -31,9 +31,13 @@ no_desk g d = (nat_le g.desks d, Desk d)
 abbrev pub no_correct : Group → ℕ → Bool × CarrierFault
 no_correct g d = (faulty g d, Faulty d)
 
--- a desk that receives may send two frames
-abbrev pub no_two : Meaning → Bool × CarrierFault
-no_two m = (nat_lt m.places (length m.wire + 2), NoRoom (length m.wire))
+-- the most frames that a desk sends when it receives one
+abbrev pub most_sent : ℕ
+most_sent = 2
+
+-- there is room for what a desk that receives may send
+abbrev pub no_room : Meaning → Bool × CarrierFault
+no_room m = (nat_lt m.places (length m.wire + most_sent), NoRoom (length m.wire))
 
 abbrev pub offer_tests : Meaning → ℕ → Content → Tests CarrierFault
 offer_tests m d c =
@@ -46,15 +50,15 @@ offer_tests m d c =
 
 abbrev pub take_tests : Meaning → ℕ → ℕ → Tests CarrierFault
 take_tests m i d =
-    no_desk m.group d ∷ no_correct m.group d ∷ no_two m ∷ (nat_le (length m.wire) i, NoFrame i) ∷ []
+    no_desk m.group d ∷ no_correct m.group d ∷ no_room m ∷ (nat_le (length m.wire) i, NoFrame i) ∷ []
 
 -- bytes as from a peer, at a carrier that knows those kinds
 abbrev pub feign_tests : Kinds → Meaning → ℕ → ℕ → List ℕ → Tests CarrierFault
 feign_tests ks m p d bytes =
     no_desk m.group p
     ∷ no_desk m.group d
-    ∷ lifted Frame (frame_tests bytes m.group.desks m.group.numbers ks p)
-    ++ no_correct m.group d ∷ (not (faulty m.group p), CorrectPeer p) ∷ no_two m ∷ []
+    ∷ tests_above Frame (frame_tests bytes m.group.desks m.group.numbers ks p)
+    ++ no_correct m.group d ∷ (not (faulty m.group p), CorrectPeer p) ∷ no_room m ∷ []
 
 -- the question for an accepted content
 abbrev pub accepted_tests : Meaning → ℕ → ℕ → ℕ → Tests CarrierFault

@@ -1,7 +1,7 @@
 -- All that a carrier means: its size, what each of its values means, its exact steps, and what it shows of them. Assumes nothing.
 use Rattle.std.specs.Prelude.{◌≡◌, ℕ, List, length, replicate, None, Ok, Err, Option, Result}
 use Rattle.desks.specs.declared.group.Group.{Group}
-use Rattle.desks.specs.Firsts.{first, lifted, unless}
+use Rattle.desks.specs.Firsts.{first, tests_above, unless}
 use Rattle.desks.specs.declared.faults.FormFault.{FormFault}
 use Rattle.frame.specs.Kinds.{known_to}
 use Rattle.carrier.specs.declared.faults.CarrierFault.{CarrierFault}
@@ -46,7 +46,7 @@ module _ {C : Type 0} (m : CarrierModel C) where
   form_fault g memory = first (form_tests m.factor (m.bytes g.desks g.numbers) g memory)
 
   abbrev pub check_reply : Group → ℕ → Result (Unit {0}) CarrierFault
-  check_reply g memory = unless (first (lifted Form (form_tests m.factor (m.bytes g.desks g.numbers) g memory))) tt
+  check_reply g memory = unless (first (tests_above Form (form_tests m.factor (m.bytes g.desks g.numbers) g memory))) tt
 
   -- a new carrier: as it starts, and the whole memory handed in is 0
   pub record Made (g : Group) (memory : List ℕ) (places : ℕ) (s : C) : Type 0 where

@@ -2,13 +2,13 @@
 use Rattle.std.specs.Prelude.{ℕ, ◌+◌, List, [], Ok, Err, Option, Result}
 use Rattle.std.specs.Borrow.{Bor}
 use Rattle.std.specs.List.{slice_get}
-use Rattle.std.specs.Option.{unwrap_or}
+use Rattle.std.specs.Option.{option_copied, unwrap_or}
 use Rattle.desks.specs.declared.group.Group.{Group}
 use Rattle.desks.specs.Firsts.{first, unless}
 use Rattle.desks.specs.Sizes.{item_size}
 use Rattle.frame.specs.declared.kinds.Kind.TheVariants.{Init}
 use Rattle.wire.specs.declared.sent.Sent.{Sent}
-use Rattle.wire.specs.Posted.{Posted, posted, new_frame, behind}
+use Rattle.wire.specs.Posted.{Posted, posted, new_frame}
 use Rattle.carrier.specs.declared.faults.CarrierFault.{CarrierFault}
 use Rattle.carrier.specs.Meaning.{Content, Meaning}
 use Rattle.carrier.specs.Declines.{accepted_tests, frame_question}
@@ -19,7 +19,7 @@ accepted_reply m d o k = unless (first (accepted_tests m d o k)) (m.accepted d o
 
 -- an answer with the bytes behind its reference
 abbrev pub accepted_as : Result (Option (Bor (List ℕ))) CarrierFault → Result (Option Content) CarrierFault
-accepted_as (Ok o) = Ok (behind o)
+accepted_as (Ok o) = Ok (option_copied o)
 accepted_as (Err f) = Err f
 
 -- the frame at a place; a frame of no desk stands in where there is none, and none is answered there

@@ -1,5 +1,5 @@
 ghost use Rattle.std.specs.Prelude.{◌≡◌};
-ghost use Rattle.desks.specs.Firsts.{first, lifted, unless};
+ghost use Rattle.desks.specs.Firsts.{first, tests_above, unless};
 ghost use Rattle.carrier.specs.Declines.{size_tests, form_tests};
 ghost use Rattle.carrier.specs.declared.faults.CarrierFault.TheVariants.{Form};
 
@@ -26,7 +26,7 @@ pub fn check_group(
     group: Group,
     memory: usize,
 ) -> Result<(), CarrierFault>
-    ensures { result ≡ unless (first (lifted Form (form_tests factor needed group memory))) tt }
+    ensures { result ≡ unless (first (tests_above Form (form_tests factor needed group memory))) tt }
 {
     let parameters = group.under(factor);
     parameters.check_ranges()?;

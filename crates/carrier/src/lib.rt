@@ -20,11 +20,15 @@ pub trait Carrier<'a>: Sized {
     // The desks outnumber the faults by this factor.
     const FACTOR: u8;
 
+    // The constant's value, for contracts: whoever implements the trait gives both, and they are shown equal.
+    ghost FACTOR: { ℕ };
+
     ghost model: { CarrierModel Self };
 
-    // The constant, for contracts.
+    // The constant, as a call: it is the factor that the laws speak of.
     fn resilience() -> u8
-        ensures { result ≡ model.factor };
+        ensures constant { result ≡ FACTOR }
+        ensures meant { result ≡ model.factor };
 
     // The bytes that it needs for so many desks and numbers.
     fn bytes(desks: u8, numbers: u8) -> Result<usize, CarrierFault>

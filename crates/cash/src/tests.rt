@@ -99,3 +99,22 @@ fn pays_to_the_last(rt: HostRuntime) -> Result<(), Fail> {
     let mut memory = [0u8; 32];
     pay_to_the_last::<Cash<'_>>(&rt, &mut memory)
 }
+
+// Of three desks the last has a balance too, at every desk.
+fn open_the_last_of_three<'a, B: Book<'a> + Drop>(
+    rt: &impl Abort,
+    memory: &'a mut [u8],
+) -> Result<(), Fail> {
+    let mut book = form::<B>(3, memory)?;
+    assert_eq!(rt; book.figure(0, 2), Ok(0));
+    assert_eq!(rt; book.open(2, 7), Ok(()));
+    assert_eq!(rt; book.figure(1, 2), Ok(7));
+    assert_eq!(rt; book.figure(1, 3), Err(BookFault::Figure(3)));
+    Ok(())
+}
+
+#[test]
+fn opens_the_last_of_three(rt: HostRuntime) -> Result<(), Fail> {
+    let mut memory = [0u8; 72];
+    open_the_last_of_three::<Cash<'_>>(&rt, &mut memory)
+}

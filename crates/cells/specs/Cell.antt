@@ -1,7 +1,6 @@
 -- The bytes of a cell, and what a write to a cell and a clearing leave.
 use Rattle.std.specs.Prelude.{◌≡◌, ℕ, ◌+◌, ◌*◌, Bool, false, cond, ◌&&◌, List, length, take, drop, replicate, Some, None, Option, ◌==◌, nat_le}
 use Rattle.std.proofs.Math.Seq.{paste}
-use Rattle.std.specs.Borrow.{Bor}
 use Rattle.cells.specs.declared.Cells.{Cells}
 
 -- cell i ends within the bytes
@@ -15,11 +14,6 @@ start_of c i = cond (there c i) (Some (i * c.width)) None
 -- the bytes of cell i
 abbrev pub cell : Cells → ℕ → Option (List ℕ)
 cell c i = cond (there c i) (Some (take c.width (drop (i * c.width) c.bytes.now))) None
-
--- the bytes behind a reference that may be absent
-abbrev pub behind : Option (Bor (List ℕ)) → Option (List ℕ)
-behind None = None
-behind (Some r) = Some r.now
 
 -- the cells before and after x was put into cell i, where r says whether it was
 pub record Put (c : Cells) (i : ℕ) (x : List ℕ) (r : Bool) (c' : Cells) : Type 0 where

@@ -2,7 +2,8 @@
 #![tactic(auto)]
 
 ghost use Rattle.std.specs.Prelude.{◌≡◌, length, replicate};
-ghost use Rattle.cells.specs.Cell.{start_of, cell, behind, Put, Cleared};
+ghost use Rattle.std.specs.Option.{option_copied};
+ghost use Rattle.cells.specs.Cell.{start_of, cell, Put, Cleared};
 
 #[derive(Drop)]
 pub struct Cells<'a> {
@@ -42,7 +43,7 @@ impl<'a> Cells<'a> {
 
     // The bytes of cell i.
     pub fn get(&self, i: usize) -> Option<&[u8]>
-        ensures { behind result ≡ cell self.now i }
+        ensures { option_copied result ≡ cell self.now i }
     {
         let from = self.start(i)?;
         Some(&self.bytes[from..from + self.width])

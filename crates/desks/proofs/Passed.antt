@@ -1,7 +1,7 @@
 -- What an answer says of the tests before it.
 use Rattle.std.proofs.Common.{◌≡◌, ℕ, zero, suc, Bool, true, false, cond, [], ◌∷◌, ◌++◌, Some, None, Ok, Err, Option, Result, refl, arith}
 use Rattle.std.specs.Option.{option_map}
-use Rattle.desks.specs.Firsts.{Tests, first, lifted, unless, Unless}
+use Rattle.desks.specs.Firsts.{Tests, first, tests_above, unless, Unless}
 
 -- an answer is given where no fault applies, and is the one promised
 pub unless_ok : {A F : Type 0} (o : Option F) (a b : A) → ◌≡◌ {A = Result A F} (Ok a) (unless o b) → (o ≡ None) × (a ≡ b)
@@ -65,10 +65,10 @@ pub done_by : {S F : Type 0} (o : Option F) (s s' : S) (P : Type 0) → Unless o
 done_by None s s' P h = (refl, h.1)
 done_by (Some g) s s' P h = let e = h.0 in let z : ◌≡◌ {A = ℕ} 0 1 = cc in absurd (omega (arith, z))
 
--- the first of lifted tests is the first, lifted
-pub first_lifted : {F G : Type 0} (h : F → G) (ts : Tests F) → first (lifted h ts) ≡ option_map h (first ts)
-first_lifted h [] = refl
-first_lifted h (t ∷ ts) = by t.0 (first_lifted h ts) where
-  by : (b : Bool) → first (lifted h ts) ≡ option_map h (first ts) → cond b (Some (h t.1)) (first (lifted h ts)) ≡ option_map h (cond b (Some t.1) (first ts))
+-- the first of the tests as the layer above has them is the first, as it has that
+pub first_tests_above : {F G : Type 0} (h : F → G) (ts : Tests F) → first (tests_above h ts) ≡ option_map h (first ts)
+first_tests_above h [] = refl
+first_tests_above h (t ∷ ts) = by t.0 (first_tests_above h ts) where
+  by : (b : Bool) → first (tests_above h ts) ≡ option_map h (first ts) → cond b (Some (h t.1)) (first (tests_above h ts)) ≡ option_map h (cond b (Some t.1) (first ts))
   by true e = refl
   by false e = e

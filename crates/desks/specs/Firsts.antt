@@ -11,8 +11,8 @@ first [] = None
 first (t ∷ ts) = cond t.0 (Some t.1) (first ts)
 
 -- tests of a layer below, each fault kept whole in one of the layer above
-abbrev pub lifted : {F G : Type 0} → (F → G) → Tests F → Tests G
-lifted h ts = map (λ t. (t.0, h t.1)) ts
+abbrev pub tests_above : {F G : Type 0} → (F → G) → Tests F → Tests G
+tests_above h ts = map (λ t. (t.0, h t.1)) ts
 
 -- the answer, unless there is a fault
 abbrev pub unless : {A F : Type 0} → Option F → A → Result A F

@@ -8,6 +8,7 @@ use Rattle.quorum.specs.Frames.{Setting, Frame}
 use Rattle.quorum.specs.Machine.{Protocol}
 use Rattle.quorum.specs.Network.{LawfulEverywhere}
 use Rattle.carrier.specs.Meaning.{Content}
+use Rattle.carrier.specs.Declines.{most_sent}
 
 abbrev pub is_init : Kind → Bool
 is_init Init = true
@@ -43,8 +44,8 @@ pub record Regular {D K : Type 0} (B : Broadcast D K) : Type 0 where
   pub begins : (k : Kind) → has_kind (known_to B.factor) k ≡ true → B.decode k ≡ B.protocol.first → k ≡ Init
   -- nothing is accepted at first
   pub none : B.protocol.accepted B.protocol.blank ≡ None
-  -- on a frame a desk sends at most two, for the content received
-  pub few : (S : Setting Content) (d : ℕ) (H : D) (p : ℕ) (k : K) (c : Content) → length (B.protocol.sends S d H (B.protocol.receive S H p k c) c) ≤ 2
+  -- on a frame a desk sends at most so many, for the content received
+  pub few : (S : Setting Content) (d : ℕ) (H : D) (p : ℕ) (k : K) (c : Content) → length (B.protocol.sends S d H (B.protocol.receive S H p k c) c) ≤ most_sent
   pub sends : (S : Setting Content) (d : ℕ) (H : D) (p : ℕ) (k : K) (c : Content) → AllByRecursion (Sends B.code B.factor d c) (B.protocol.sends S d H (B.protocol.receive S H p k c) c)
   -- and accepts nothing, or the content received where it had nothing
   pub accepts : (S : Setting Content) (H : D) (p : ℕ) (k : K) (c : Content) →

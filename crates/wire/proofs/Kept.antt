@@ -1,5 +1,5 @@
 -- The frames of a wire, from the entries of its log.
-use Rattle.std.proofs.Common.{◌≡◌, ℕ, zero, suc, ◌-◌, ◌<◌, ◌≤◌, Bool, true, false, cond, eqb, ltb, leb, List, [], ◌∷◌, ◌++◌, map, length, set, is_some, Some, None, sym, refl, ap, ◌∙◌, arith}
+use Rattle.std.proofs.Common.{◌≡◌, ℕ, zero, suc, ◌-◌, ◌<◌, ◌≤◌, Bool, true, false, cond, eqb, ltb, leb, List, [], ◌∷◌, ◌++◌, map, length, set, is_some, Some, None, sym, refl, ap, ◌∙◌, subst, arith}
 use Rattle.std.proofs.lemmas.List.{length-map, map-append, map-set}
 use Rattle.std.proofs.lemmas.Bool.{cond-true, lt-ltb, le-ltb, eq-eqb, le-leb, true≢false}
 use Rattle.std.proofs.lemmas.Bool.Decides.{nat_tests}
@@ -11,7 +11,7 @@ use Rattle.lent_log.specs.Changes as log
 use Rattle.lent_log.proofs.Sizes.{size_within}
 use Rattle.wire.specs.declared.sent.Sent.{Sent}
 use Rattle.wire.specs.declared.wire.Wire.{Wire}
-use Rattle.wire.specs.Posted.{posted, new_frame, marked, TakenBy, frames, places}
+use Rattle.wire.specs.Posted.{posted, new_frame, fresh, marked, TakenBy, frames, places}
 use Rattle.wire.specs.Changes.{Marks, Posts}
 
 pub nth_map : {X Y : Type 0} (g : X → Y) (xs : List X) (i : ℕ) → option_map g (slice_get xs i) ≡ slice_get (map g xs) i
@@ -46,6 +46,7 @@ nothing_marked w i d l e =
     record {
       answer = sym (rw (lt-ltb d 16 l, z) refl);
       marked = λ x t p. (let q : ◌≡◌ {A = ℕ} 0 1 = cc in absurd (omega arith));
+      list = λ f t p. (let q : ◌≡◌ {A = ℕ} 0 1 = cc in absurd (omega arith));
       width = refl;
       places = refl;
       unchanged = λ _. refl;
@@ -67,14 +68,15 @@ module _ (w w' : Wire) (same : w'.width ≡ w.width) where
       record {
         answer = s ∙ sym (rw (lt-ltb d 16 l, a) refl);
         marked = λ x t p. (let q : posted w.width f ≡ x = cc in fs ∙ ap (λ y. set (frames w) i (marked d y)) q);
+        list = λ g b p. (let q : f ≡ g = cc in (f', (subst (λ y. TakenBy d y f') q t, h)));
         width = same;
         places = h.width;
         unchanged = λ z. absurd (true≢false (sym s ∙ z));
       }
 
-  pub posting : (d : ℕ) (k : Kind) (o m : ℕ) (c : List ℕ) (f : Sent) (r : Bool) → length c ≡ w.width → length c ≤ 24 → posted (length c) f ≡ new_frame d k o m c → log.Pushed w.log f r w'.log → (r ≡ false → w' ≡ w) → Posts w d k o m c r w'
+  pub posting : (d : ℕ) (k : Kind) (o m : ℕ) (c : List ℕ) (f : Sent) (r : Bool) → length c ≡ w.width → length c ≤ 24 → f ≡ fresh d k o m c → posted (length c) f ≡ new_frame d k o m c → log.Pushed w.log f r w'.log → (r ≡ false → w' ≡ w) → Posts w d k o m c r w'
   unfolding frames
-  posting d k o m c f r l b p h u =
+  posting d k o m c f r l b z p h u =
       let fits : eqb (length c) w.width ≡ true = eq-eqb _ _ l in
       let short : leb (length c) 24 ≡ true = le-leb _ _ b in
       let free : ltb 0 (room_of w.log) ≡ ltb (length (frames w)) (places w) = rw (frames_room w) (let wi = frames_within w in grind (arith, nat_tests)) in
@@ -83,6 +85,7 @@ module _ (w w' : Wire) (same : w'.width ≡ w.width) where
       record {
         answer = h.answer ∙ free ∙ sym (rw (fits, short) refl);
         frames = ap (λ n. map (posted n) (entries_of w'.log)) same ∙ ap (map (posted w.width)) h.entries ∙ e;
+        list = λ _ _. subst (λ y. log.Pushed w.log y r w'.log) z h;
         width = same;
         places = h.width;
         unchanged = u;

@@ -1,6 +1,5 @@
 -- A frame on the wire as plain values, and the frames of a wire. Assumes nothing.
-use Rattle.std.specs.Prelude.{◌≡◌, ℕ, Bool, false, ◌||◌, List, map, length, take, Some, None, Option, ◌==◌}
-use Rattle.std.specs.Borrow.{Bor}
+use Rattle.std.specs.Prelude.{◌≡◌, ℕ, ◌-◌, Bool, false, ◌++◌, ◌||◌, List, map, length, take, replicate, ◌==◌}
 use Rattle.desks.specs.Sets.{has_desk}
 use Rattle.frame.specs.declared.kinds.Kind.{Kind}
 use Rattle.lent_log.specs.Entries.{entries_of}
@@ -31,6 +30,10 @@ posted width f = record {
 abbrev pub new_frame : ℕ → Kind → ℕ → ℕ → List ℕ → Posted
 new_frame d k o m c = record { sender = d; kind = k; origin = o; number = m; content = c; taken = λ q. false }
 
+-- as it is kept in memory: the bytes that its content leaves free are 0
+abbrev pub fresh : ℕ → Kind → ℕ → ℕ → List ℕ → Sent
+fresh d k o m c = record { sender = d; kind = k; origin = o; number = m; content = c ++ replicate (24 - length c) 0; taken = record { bits = 0 } }
+
 -- taken by that desk too
 abbrev pub marked : ℕ → Posted → Posted
 marked d p = record { sender = p.sender; kind = p.kind; origin = p.origin; number = p.number; content = p.content; taken = λ q. (q == d) || p.taken q }
@@ -38,11 +41,6 @@ marked d p = record { sender = p.sender; kind = p.kind; origin = p.origin; numbe
 -- the same frame, taken by that desk too
 abbrev pub TakenBy : ℕ → Sent → Sent → Type 0
 TakenBy d f f' = (width : ℕ) → posted width f' ≡ marked d (posted width f)
-
--- the bytes behind a reference that may be absent
-abbrev pub behind : Option (Bor (List ℕ)) → Option (List ℕ)
-behind None = None
-behind (Some r) = Some r.now
 
 -- the frames of a wire, the oldest first
 unfoldable pub frames : Wire → List Posted

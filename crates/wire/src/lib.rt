@@ -6,3 +6,6 @@ mod wire;
 
 pub use sent::{MOST_CONTENT, Sent};
 pub use wire::Wire;
+
+#[cfg(test)]
+mod tests;

@@ -1,6 +1,7 @@
 ghost use Rattle.std.specs.Prelude.{◌≡◌, ◌<◌, ◌≤◌, [], length, take, if◌then◌else◌, Some, None, nat_le};
 ghost use Rattle.frame.specs.declared.kinds.Kind.TheVariants.{Init};
-ghost use Rattle.wire.specs.Posted.{posted, new_frame, behind, TakenBy};
+ghost use Rattle.std.specs.Option.{option_copied};
+ghost use Rattle.wire.specs.Posted.{posted, new_frame, fresh, TakenBy};
 
 use desks::{DeskSet, ITEM_SIZE};
 use frame::Kind;
@@ -23,7 +24,8 @@ impl Sent {
     // A frame that none took.
     pub(crate) fn new(sender: u8, kind: Kind, origin: u8, number: u8, content: &[u8]) -> Sent
         requires { length content.now ≤ 24 }
-        ensures { posted (length content.now) result ≡ new_frame sender kind origin number content.now }
+        ensures kept { result ≡ fresh sender kind origin number content.now }
+        ensures meaning { posted (length content.now) result ≡ new_frame sender kind origin number content.now }
     {
         let mut room = [0u8; MOST_CONTENT];
         room[..content.len()].copy_from_slice(content);
@@ -39,7 +41,8 @@ impl Sent {
 
     // What fills places before any frame is sent.
     pub fn blank() -> Sent
-        ensures { posted 0 result ≡ new_frame 0 Init 0 0 [] }
+        ensures kept { result ≡ fresh 0 Init 0 0 [] }
+        ensures meaning { posted 0 result ≡ new_frame 0 Init 0 0 [] }
     {
         Sent::new(0, Kind::Init, 0, 0, &[])
     }
@@ -94,7 +97,7 @@ impl Sent {
 
     // The first bytes of its content: as many as the group's contents have.
     pub fn content(&self, width: u8) -> Option<&[u8]>
-        ensures { behind result ≡ (if nat_le width 24 then Some (take width self.now.content) else None) }
+        ensures { option_copied result ≡ (if nat_le width 24 then Some (take width self.now.content) else None) }
     {
         if width as usize > MOST_CONTENT {
             return None;

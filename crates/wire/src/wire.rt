@@ -4,6 +4,7 @@ ghost use Rattle.std.specs.Option.{option_map};
 ghost use Rattle.wire.specs.Posted.{posted, frames};
 ghost use Rattle.wire.specs.Posted.{places as places_of};
 ghost use Rattle.wire.specs.Changes.{Made, Marks, Posts};
+ghost use Rattle.lent_log.specs.Entries.{entry_at};
 
 use crate::sent::{MOST_CONTENT, Sent};
 use frame::Kind;
@@ -19,7 +20,7 @@ pub struct Wire<'a> {
 impl<'a> Wire<'a> {
     // An empty wire. What the places hold is not read.
     pub fn new(places: &'a mut [Sent], width: u8) -> Wire<'a>
-        ensures { Made places.old width result }
+        ensures { Made places.entry width result }
     {
         let log = Log::new(places);
         Wire { log, width }
@@ -41,7 +42,8 @@ impl<'a> Wire<'a> {
 
     // The frame at a place, none past the last.
     pub fn get(&self, place: usize) -> Option<Sent>
-        ensures { option_map (posted self.now.width) result ≡ slice_get (frames self.now) place }
+        ensures kept { result ≡ entry_at self.now.log place }
+        ensures meaning { option_map (posted self.now.width) result ≡ slice_get (frames self.now) place }
     {
         self.log.get(place)
     }

@@ -4,7 +4,7 @@ use Rattle.std.proofs.lemmas.Result.{err_from_is_err_and}
 use Rattle.desks.specs.Firsts.{first, unless}
 use Rattle.desks.specs.Forming.{ranges, bounds, parameters_under}
 use Rattle.desks.specs.declared.faults.FormFault.TheVariants.{Memory}
-use Rattle.desks.proofs.Passed.{unless_err, unless_ok, first_front, first_back, first_lifted}
+use Rattle.desks.proofs.Passed.{unless_err, unless_ok, first_front, first_back, first_tests_above}
 use Rattle.carrier.specs.declared.faults.CarrierFault.TheVariants.{Form}
 use Rattle.carrier.specs.Declines.{form_tests}
 use Rattle.carrier.proofs.checks.check_group.Goals as goal
@@ -18,4 +18,4 @@ returns-in_err-check_bounds c =
     let r = ap (λ x. first (ranges x)) (sym u) ∙ (unless_ok (first (ranges c.under-parameters.result)) _ _ c.in_ok-check_ranges.ensures).0 in
     let rest = (ltb c.args.memory c.args.needed, Memory c.args.needed) ∷ [] in
     let f = first_back (ranges g) (bounds g ++ rest) r ∙ first_front (bounds g) rest _ e in
-    p.1 ∙ ap (λ y. Err y) p.2 ∙ sym (ap (λ o. unless o tt) (first_lifted Form (form_tests c.args.factor c.args.needed c.args.group c.args.memory) ∙ ap (option_map Form) f))
+    p.1 ∙ ap (λ y. Err y) p.2 ∙ sym (ap (λ o. unless o tt) (first_tests_above Form (form_tests c.args.factor c.args.needed c.args.group c.args.memory) ∙ ap (option_map Form) f))

@@ -8,4 +8,5 @@ returns c = record {
   empty = ap (map (posted c.args.width)) c.new-log.ensures.empty;
   width = refl;
   places = ap (λ p. length p.now) c.new-log.ensures.places;
+  list = c.new-log.ensures;
 }
