@@ -1,5 +1,10 @@
-ghost use Rattle.std.specs.Prelude.{◌≡◌};
+ghost use Rattle.std.specs.Prelude.{◌≡◌, not, Some, [], ◌∷◌};
+ghost use Rattle.desks.specs.Firsts.{first, unless};
+ghost use Rattle.desks.specs.Forming.{out_of_range};
 ghost use Rattle.desks.specs.Refusals.{letter_of, place_of, form_refusal};
+ghost use Rattle.desks.specs.declared.faults.FormFault.TheVariants.{Range};
+
+use std::fmt;
 
 // The layer that refuses.
 #[derive(Clone, Copy, PartialEq, Eq, Debug)]
@@ -23,6 +28,14 @@ impl Layer {
             Layer::Floor => 'D',
             Layer::Script => 'S',
         }
+    }
+}
+
+impl fmt::Display for Layer {
+    ghost output = { λ layer. Some (letter_of layer ∷ []) };
+
+    fn fmt<W: fmt::Write>(&self, f: &mut fmt::Formatter<W>) -> fmt::Result {
+        write!(f, "{}", self.letter())
     }
 }
 
@@ -57,6 +70,30 @@ impl Parameter {
             Parameter::BookCode => 4,
         }
     }
+
+    // Whether the value lies in the parameter's range.
+    fn takes(self, value: u8) -> bool
+        ensures { result ≡ not (out_of_range self value) }
+    {
+        match self {
+            Parameter::Desks => (2..=16).contains(&value),
+            Parameter::Numbers => (1..=64).contains(&value),
+            Parameter::Faults => value <= 5,
+            Parameter::Factor => value == 3 || value == 5,
+            Parameter::BookCode => value == 1 || value == 2,
+        }
+    }
+
+    // Refuses a value outside the parameter's range.
+    pub fn check(self, value: u8) -> Result<(), FormFault>
+        ensures { result ≡ unless (first ((out_of_range self value, Range self) ∷ [])) tt }
+    {
+        if self.takes(value) {
+            Ok(())
+        } else {
+            Err(FormFault::Range(self))
+        }
+    }
 }
 
 // Why a floor, a carrier or a book cannot be formed. The layer is that of whoever refuses.
@@ -77,27 +114,16 @@ impl FormFault {
     pub fn refusal(self, layer: Layer) -> Refusal
         ensures { result ≡ form_refusal layer self }
     {
-        match self {
-            FormFault::Range(parameter) => Refusal {
-                number: 1,
-                layer,
-                place: parameter.place(),
-            },
-            FormFault::Resilience(faults) => Refusal {
-                number: 2,
-                layer,
-                place: faults as usize,
-            },
-            FormFault::FaultySet(size) => Refusal {
-                number: 3,
-                layer,
-                place: size as usize,
-            },
-            FormFault::Memory(needed) => Refusal {
-                number: 4,
-                layer,
-                place: needed,
-            },
+        let (number, place) = match self {
+            FormFault::Range(parameter) => (1, parameter.place()),
+            FormFault::Resilience(faults) => (2, usize::from(faults)),
+            FormFault::FaultySet(size) => (3, usize::from(size)),
+            FormFault::Memory(needed) => (4, needed),
+        };
+        Refusal {
+            number,
+            layer,
+            place,
         }
     }
 }

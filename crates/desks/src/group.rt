@@ -6,7 +6,7 @@ use crate::faults::{FormFault, Parameter};
 use crate::set::DeskSet;
 
 // A group: how many desks there are, how many items each may publish, how many desks may be faulty, and which are.
-#[derive(Clone, Copy)]
+#[derive(Clone, Copy, PartialEq, Eq, Debug)]
 pub struct Group {
     pub desks: u8,
     pub numbers: u8,
@@ -19,26 +19,18 @@ impl Group {
     pub fn under(self, factor: u8) -> GroupParameters
         ensures { result ≡ parameters_under factor self }
     {
-        let faulty = self.faulty;
         GroupParameters {
-            desks: self.desks,
-            numbers: self.numbers,
-            faults: self.faults,
+            group: self,
             factor,
-            faulty,
         }
     }
 }
 
-// The parameters of a group: how many desks there are, how many items each may publish, how many desks may be faulty, the
-// factor by which the desks outnumber those, and the desks that are faulty.
-#[derive(Clone, Copy)]
+// A group, and the factor by which its desks outnumber those that may be faulty.
+#[derive(Clone, Copy, PartialEq, Eq, Debug)]
 pub struct GroupParameters {
-    pub desks: u8,
-    pub numbers: u8,
-    pub faults: u8,
+    pub group: Group,
     pub factor: u8,
-    pub faulty: DeskSet,
 }
 
 impl GroupParameters {
@@ -46,30 +38,22 @@ impl GroupParameters {
     pub fn check_ranges(self) -> Result<(), FormFault>
         ensures { result ≡ unless (first (ranges self)) tt }
     {
-        if self.desks < 2 || self.desks > 16 {
-            return Err(FormFault::Range(Parameter::Desks));
-        }
-        if self.numbers < 1 || self.numbers > 64 {
-            return Err(FormFault::Range(Parameter::Numbers));
-        }
-        if self.faults > 5 {
-            return Err(FormFault::Range(Parameter::Faults));
-        }
-        if self.factor != 3 && self.factor != 5 {
-            return Err(FormFault::Range(Parameter::Factor));
-        }
-        Ok(())
+        Parameter::Desks.check(self.group.desks)?;
+        Parameter::Numbers.check(self.group.numbers)?;
+        Parameter::Faults.check(self.group.faults)?;
+        Parameter::Factor.check(self.factor)
     }
 
     // Whether the parameters fit each other.
     pub fn check_bounds(self) -> Result<(), FormFault>
         ensures { result ≡ unless (first (bounds self)) tt }
     {
-        if self.factor as u16 * self.faults as u16 >= self.desks as u16 {
-            return Err(FormFault::Resilience(self.faults));
+        let group = self.group;
+        if u16::from(self.factor) * u16::from(group.faults) >= u16::from(group.desks) {
+            return Err(FormFault::Resilience(group.faults));
         }
-        let size = self.faulty.size();
-        if self.faulty.reaches(self.desks) || size > self.faults {
+        let size = group.faulty.size();
+        if group.faulty.reaches(group.desks) || size > group.faults {
             return Err(FormFault::FaultySet(size));
         }
         Ok(())

@@ -2,7 +2,7 @@ ghost use Rattle.std.specs.Prelude.{◌≡◌, ℕ, Decides};
 ghost use Rattle.desks.specs.Sets.{has_desk, size_of, beyond, Beyond, Joined};
 
 // A set of desks: bit d stands for desk d.
-#[derive(Clone, Copy)]
+#[derive(Clone, Copy, PartialEq, Eq, Debug)]
 pub struct DeskSet {
     bits: u16,
 }

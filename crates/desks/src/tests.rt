@@ -1,5 +1,5 @@
 use crate::faults::{FormFault, Parameter};
-use crate::group::GroupParameters;
+use crate::group::{Group, GroupParameters};
 use crate::set::DeskSet;
 
 // Desks 0, 2 and 15.
@@ -27,11 +27,13 @@ fn a_set_of_three(rt: HostRuntime) {
 
 fn group(desks: u8, numbers: u8, faults: u8, factor: u8, faulty: u16) -> GroupParameters {
     GroupParameters {
-        desks,
-        numbers,
-        faults,
+        group: Group {
+            desks,
+            numbers,
+            faults,
+            faulty: DeskSet::new(faulty),
+        },
         factor,
-        faulty: DeskSet::new(faulty),
     }
 }
 

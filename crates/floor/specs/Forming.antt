@@ -26,7 +26,7 @@ bytes_of Cash n = cash_bytes n
 -- the memory, of so many bytes, is large enough
 abbrev pub memory_test : GroupParameters → ℕ → ℕ → Tests FormFault
 memory_test g code memory =
-    (nat_lt memory (bytes_of (kind_of code) g.desks), Memory (bytes_of (kind_of code) g.desks)) ∷ []
+    (nat_lt memory (bytes_of (kind_of code) g.group.desks), Memory (bytes_of (kind_of code) g.group.desks)) ∷ []
 
 -- the ranges of the group, of the book's code, the group's bounds, the memory
 abbrev pub behind_ranges : GroupParameters → ℕ → ℕ → Tests FormFault

@@ -43,7 +43,7 @@ pub fn check_form(
         _ => return Err(FloorFault::Form(FormFault::Range(Parameter::BookCode))),
     };
     parameters.check_bounds()?;
-    let needed = kind.bytes(parameters.desks)?;
+    let needed = kind.bytes(parameters.group.desks)?;
     if memory < needed {
         return Err(FloorFault::Form(FormFault::Memory(needed)));
     }

@@ -190,10 +190,10 @@ is_read s p st (Form f) h =
     let book = at s (p + 1 + 4) (p + 5) (omega arith) ∙ byte_at s bs p 5 (omega arith) h.bytes in
     let x = at s (p + 1 + 5) (p + 6) (omega arith) ∙ byte_at s bs p 6 (omega arith) h.bytes in
     let y = at s (p + 1 + 5 + 1) (p + 7) (omega arith) ∙ byte_at s bs p 7 (omega arith) h.bytes in
-    let bits : two_at s (p + 1 + 5) ≡ f.parameters.faulty.bits = omega arith in
+    let bits : two_at s (p + 1 + 5) ≡ f.parameters.group.faulty.bits = omega arith in
     reads_so s p st kind.Form (omega arith) (rw n refl) h.allowed (omega arith)
     ∙ (λ i. Ok (Some (Form (record {
-      parameters = record { desks = desks i; numbers = numbers i; faults = faults i; factor = factor i; faulty = record { bits = bits i } };
+      parameters = record { group = record { desks = desks i; numbers = numbers i; faults = faults i; faulty = record { bits = bits i } }; factor = factor i };
       book = book i;
     }))))
 is_read s p st (Opening o) h =

@@ -29,8 +29,8 @@ four_at s p = two_at s p * 65536 + two_at s (p + 2)
 -- the bytes of a command: its letter, then its operands
 abbrev pub encode : Command → List ℕ
 encode (Form f) =
-    70 ∷ f.parameters.desks ∷ f.parameters.faults ∷ f.parameters.numbers ∷ f.parameters.factor ∷ f.book
-    ∷ two_bytes f.parameters.faulty.bits
+    70 ∷ f.parameters.group.desks ∷ f.parameters.group.faults ∷ f.parameters.group.numbers ∷ f.parameters.factor ∷ f.book
+    ∷ two_bytes f.parameters.group.faulty.bits
 encode (Opening o) = 79 ∷ two_bytes o.figure ++ four_bytes (of_z w32 o.amount)
 encode Open = 71 ∷ []
 encode Quiet = 81 ∷ []
@@ -49,7 +49,7 @@ abbrev pub command_at : List ℕ → ℕ → Kind → Command
 command_at s p kind.Form =
     Form
     (record {
-      parameters = record { desks = slice_index s p; numbers = slice_index s (p + 2); faults = slice_index s (p + 1); factor = slice_index s (p + 3); faulty = record { bits = two_at s (p + 5) } };
+      parameters = record { group = record { desks = slice_index s p; numbers = slice_index s (p + 2); faults = slice_index s (p + 1); faulty = record { bits = two_at s (p + 5) } }; factor = slice_index s (p + 3) };
       book = slice_index s (p + 4);
     })
 command_at s p kind.Opening = Opening (record { figure = two_at s p; amount = to_z w32 (four_at s (p + 2)) })

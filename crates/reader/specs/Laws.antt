@@ -15,12 +15,12 @@ use Rattle.reader.specs.Commands.{encode}
 
 -- the fields of a form command fit their bytes
 pub record FormFits (f : Forming) : Type 0 where
-  pub desks : f.parameters.desks < 256
-  pub faults : f.parameters.faults < 256
-  pub numbers : f.parameters.numbers < 256
+  pub desks : f.parameters.group.desks < 256
+  pub faults : f.parameters.group.faults < 256
+  pub numbers : f.parameters.group.numbers < 256
   pub factor : f.parameters.factor < 256
   pub book : f.book < 256
-  pub faulty : f.parameters.faulty.bits < 2 ^ 16
+  pub faulty : f.parameters.group.faulty.bits < 2 ^ 16
 
 -- those of an opening command
 pub record OpeningFits (o : opening.Opening) : Type 0 where

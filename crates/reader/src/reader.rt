@@ -7,7 +7,7 @@ ghost use Rattle.reader.specs.Readings.{Bytes, Taken, restored};
 
 use crate::command::{Command, Forming, Kind, Opening, Stage};
 use crate::faults::ScriptFault;
-use desks::{DeskSet, GroupParameters};
+use desks::{DeskSet, Group, GroupParameters};
 
 // A script, and the position of the next command in it.
 #[derive(Drop)]
@@ -128,13 +128,13 @@ fn forming(script: &[u8], position: &mut usize) -> Option<Command>
     let factor = byte(script, &mut *position)?;
     let book = byte(script, &mut *position)?;
     let faulty = DeskSet::new(be_u16(script, &mut *position)?);
-    let parameters = GroupParameters {
+    let group = Group {
         desks,
         numbers,
         faults,
-        factor,
         faulty,
     };
+    let parameters = GroupParameters { group, factor };
     Some(Command::Form(Forming { parameters, book }))
 }
 

@@ -179,12 +179,12 @@ day_turn k memory s p day Close same rest =
 -- a newly formed floor: all figures are 0
 new_same : (rules : Rules) (needs : List ℤ → Option ℤ) (g : GroupParameters) → SameFigures (new_day rules needs g)
 new_same rules needs g a b x y =
-    ap (λ t. cond t (replicate rules.width (pos 0)) []) (lt-ltb a g.desks x) ∙ sym (ap (λ t. cond t (replicate rules.width (pos 0)) []) (lt-ltb b g.desks y))
+    ap (λ t. cond t (replicate rules.width (pos 0)) []) (lt-ltb a g.group.desks x) ∙ sym (ap (λ t. cond t (replicate rules.width (pos 0)) []) (lt-ltb b g.group.desks y))
 
 form_turn : (k memory : ℕ) (s : List ℕ) (p : ℕ) (c : Command) → RestAlike k memory s → ShownAlike (state_lines memory p None c ++ lines_by k memory s (p + length (encode c)) (state_after memory None c))
 form_turn k memory s p (Form f) rest = by (form_result memory f) where
   by : (r : Result BookKind ScriptFault) → ShownAlike ((form_line p r ∷ []) ++ lines_by k memory s (p + length (encode (Form f))) (formed f.parameters r))
-  by (Ok kind) = rest _ (formed f.parameters (Ok kind)) (new_same (rules_of_kind kind f.parameters.desks) (needs_of_kind kind) f.parameters)
+  by (Ok kind) = rest _ (formed f.parameters (Ok kind)) (new_same (rules_of_kind kind f.parameters.group.desks) (needs_of_kind kind) f.parameters)
   by (Err x) = rest _ None tt
 form_turn k memory s p (Opening o) rest = rest _ None tt
 form_turn k memory s p Open rest = rest _ None tt

@@ -15,18 +15,18 @@ use Rattle.reader.specs.declared.faults.ScriptFault.{ScriptFault}
 use Rattle.script.specs.Days.{lent, lifted, form_result}
 
 lent_le : (memory : ℕ) (g : GroupParameters) → lent memory g ≤ memory
-lent_le memory g = by (leb g.desks 6 && leb g.numbers 4) where
+lent_le memory g = by (leb g.group.desks 6 && leb g.group.numbers 4) where
   by : (t : Bool) → cond t memory 0 ≤ memory
   by true = omega arith
   by false = omega arith
 
-pub formable : (memory : ℕ) (f : Forming) (k : BookKind) → ◌≡◌ {A = Result BookKind ScriptFault} (Ok k) (form_result memory f) → (outside 2 16 f.parameters.desks ≡ false) × (bytes_of k f.parameters.desks ≤ memory)
+pub formable : (memory : ℕ) (f : Forming) (k : BookKind) → ◌≡◌ {A = Result BookKind ScriptFault} (Ok k) (form_result memory f) → (outside 2 16 f.parameters.group.desks ≡ false) × (bytes_of k f.parameters.group.desks ≤ memory)
 formable memory f k h = by (first (form_tests f.parameters f.book (lent memory f.parameters))) refl h where
-  by : (o : Option FormFault) → first (form_tests f.parameters f.book (lent memory f.parameters)) ≡ o → ◌≡◌ {A = Result BookKind ScriptFault} (Ok k) (lifted (unless (option_map Form o) (kind_of f.book))) → (outside 2 16 f.parameters.desks ≡ false) × (bytes_of k f.parameters.desks ≤ memory)
+  by : (o : Option FormFault) → first (form_tests f.parameters f.book (lent memory f.parameters)) ≡ o → ◌≡◌ {A = Result BookKind ScriptFault} (Ok k) (lifted (unless (option_map Form o) (kind_of f.book))) → (outside 2 16 f.parameters.group.desks ≡ false) × (bytes_of k f.parameters.group.desks ≤ memory)
   by None e h =
       let q : k ≡ kind_of f.book = cc in
       let n = none_holds (form_tests f.parameters f.book (lent memory f.parameters)) e in
-      let m = ltb-false (lent memory f.parameters) (bytes_of (kind_of f.book) f.parameters.desks) (n 7) in
+      let m = ltb-false (lent memory f.parameters) (bytes_of (kind_of f.book) f.parameters.group.desks) (n 7) in
       let l = lent_le memory f.parameters in
-      (n 0, subst (λ y. bytes_of y f.parameters.desks ≤ memory) (sym q) (omega arith))
+      (n 0, subst (λ y. bytes_of y f.parameters.group.desks ≤ memory) (sym q) (omega arith))
   by (Some x) e h = let z : ◌≡◌ {A = ℕ} 0 1 = cc in absurd (omega (arith, z))

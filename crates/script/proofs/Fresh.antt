@@ -9,13 +9,13 @@ use Rattle.reader.specs.declared.command.Stage.TheVariants.{Set}
 use Rattle.script.specs.Days.{new_day}
 use Rattle.script.specs.Meaning.{day_of}
 
-pub fresh : {B : Type 0} (m : BookModel B) (needs : List ℤ → Option ℤ) (b : B) (g : GroupParameters) (memory : List ℕ) → Made m g.desks memory b → day_of m needs (record { book = b; faulty = g.faulty; stage = Set }) ≡ new_day (m.rules g.desks) needs g
+pub fresh : {B : Type 0} (m : BookModel B) (needs : List ℤ → Option ℤ) (b : B) (g : GroupParameters) (memory : List ℕ) → Made m g.group.desks memory b → day_of m needs (record { book = b; faulty = g.group.faulty; stage = Set }) ≡ new_day (m.rules g.group.desks) needs g
 fresh m needs b g memory h =
     let p = ap m.rules h.desks in
     let q = h.desks in
-    let r : m.figures b ≡ (λ d. cond (ltb d g.desks) (replicate (m.rules g.desks).width (pos 0)) []) = fun_ext (λ d. by d (ltb d g.desks) refl) in
-    λ i. record { rules = p i; needs = needs; desks = q i; faulty = g.faulty.bits; stage = Set; figures = r i }
+    let r : m.figures b ≡ (λ d. cond (ltb d g.group.desks) (replicate (m.rules g.group.desks).width (pos 0)) []) = fun_ext (λ d. by d (ltb d g.group.desks) refl) in
+    λ i. record { rules = p i; needs = needs; desks = q i; faulty = g.group.faulty.bits; stage = Set; figures = r i }
   where
-    by : (d : ℕ) (t : Bool) → ltb d g.desks ≡ t → m.figures b d ≡ cond t (replicate (m.rules g.desks).width (pos 0)) []
-    by d true e = h.figures d (ltb-true d g.desks e)
-    by d false e = let l = ltb-false d g.desks e in let k = h.desks in (m.sound b).only_desks d (omega arith)
+    by : (d : ℕ) (t : Bool) → ltb d g.group.desks ≡ t → m.figures b d ≡ cond t (replicate (m.rules g.group.desks).width (pos 0)) []
+    by d true e = h.figures d (ltb-true d g.group.desks e)
+    by d false e = let l = ltb-false d g.group.desks e in let k = h.desks in (m.sound b).only_desks d (omega arith)

@@ -58,15 +58,15 @@ abbrev pub new_day : Rules → (List ℤ → Option ℤ) → GroupParameters →
 new_day rules needs g = record {
   rules = rules;
   needs = needs;
-  desks = g.desks;
-  faulty = g.faulty.bits;
+  desks = g.group.desks;
+  faulty = g.group.faulty.bits;
   stage = stage.Set;
-  figures = λ d. cond (nat_lt d g.desks) (replicate rules.width (pos 0)) [];
+  figures = λ d. cond (nat_lt d g.group.desks) (replicate rules.width (pos 0)) [];
 }
 
 -- the memory that a script lends to a floor: all of it to at most 6 desks and 4 numbers, none to larger ones
 abbrev pub lent : ℕ → GroupParameters → ℕ
-lent memory g = cond (nat_le g.desks 6 && nat_le g.numbers 4) memory 0
+lent memory g = cond (nat_le g.group.desks 6 && nat_le g.group.numbers 4) memory 0
 
 -- the line of a command: its own, or that of its refusal
 abbrev pub answer_line : Line → Result (Unit {0}) ScriptFault → ℕ → Line
@@ -75,7 +75,7 @@ answer_line done (Err f) p = line.Refused (script_refusal f) p
 
 -- forming: a day, or a refusal that leaves none
 abbrev pub formed : GroupParameters → Result BookKind ScriptFault → State
-formed g (Ok k) = Some (new_day (rules_of_kind k g.desks) (needs_of_kind k) g)
+formed g (Ok k) = Some (new_day (rules_of_kind k g.group.desks) (needs_of_kind k) g)
 formed g (Err f) = None
 
 -- the floor's fault, inside the script's

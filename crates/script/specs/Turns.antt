@@ -26,8 +26,8 @@ Fetches s p st ls None p' ls' = (memory : ℕ) (state : State) → stage_of stat
 pub record Forms (memory : ℕ) (s : List ℕ) (p : ℕ) (ls : List Line) (f : Formed) (p' : ℕ) (ls' : List Line) : Type 0 where
   pub rest : ls' ++ lines_from memory s p' (formed f.parameters (Ok f.kind)) ≡ ls ++ lines_from memory s p None
   pub within : p' ≤ length s
-  pub desks : outside 2 16 f.parameters.desks ≡ false
-  pub memory_enough : bytes_of f.kind f.parameters.desks ≤ memory
+  pub desks : outside 2 16 f.parameters.group.desks ≡ false
+  pub memory_enough : bytes_of f.kind f.parameters.group.desks ≤ memory
 
 -- or the script ended before one was
 abbrev pub FormsFirst : ℕ → List ℕ → ℕ → List Line → Option Formed → ℕ → List Line → Type 0

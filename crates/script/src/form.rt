@@ -25,7 +25,7 @@ const MOST_NUMBERS: u8 = 4;
 fn lends(parameters: GroupParameters, memory: usize) -> usize
     ensures { result ≡ lent memory parameters }
 {
-    if parameters.desks <= MOST_DESKS && parameters.numbers <= MOST_NUMBERS {
+    if parameters.group.desks <= MOST_DESKS && parameters.group.numbers <= MOST_NUMBERS {
         memory
     } else {
         0

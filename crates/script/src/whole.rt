@@ -25,14 +25,14 @@ fn serve<'a, B: DayBook<'a> + Drop>(
     reader: &mut Reader<'_>,
     lines: &mut Vec<Line>,
 ) -> Result<(), AllocError>
-    requires formable { first (form_tests B.Book.model parameters.desks (length memory.old)) ≡ None }
+    requires formable { first (form_tests B.Book.model parameters.group.desks (length memory.old)) ≡ None }
     requires within { reader.old.position ≤ length reader.old.script.now }
-    ensures { OnOk result ((room : ℕ) → lines.new.items ≡ lines.old.items ++ lines_from room reader.old.script.now reader.old.position (Some (new_day (B.Book.model.rules parameters.desks) B.DayBook.needs parameters))) }
+    ensures { OnOk result ((room : ℕ) → lines.new.items ≡ lines.old.items ++ lines_from room reader.old.script.now reader.old.position (Some (new_day (B.Book.model.rules parameters.group.desks) B.DayBook.needs parameters))) }
 {
-    let book = B::make(parameters.desks, memory);
+    let book = B::make(parameters.group.desks, memory);
     let mut day = Day {
         book,
-        faulty: parameters.faulty,
+        faulty: parameters.group.faulty,
         stage: Stage::Set,
     };
     play(&mut day, reader, lines)?;
