@@ -1,19 +1,14 @@
 -- The decimal text of a number writes it, and no other text does.
-use Rattle.std.proofs.Common.{◌≡◌, ℕ, suc, ◌^◌, ◌<◌, ◌≤◌, List, ◌∷◌, length, get_or, pos, negsuc, decimal, sym, refl, ap, ◌∙◌, ⊎_elim, arith, rules}
+use Rattle.std.proofs.Common.{◌≡◌, ℕ, suc, ◌^◌, ◌<◌, List, ◌∷◌, length, get_or, pos, negsuc, decimal, sym, refl, ap, ◌∙◌, arith, rules}
 use Rattle.std.proofs.lemmas.Str.Parse.{IsNumeralModel, numerals_by_fold}
 use Rattle.std.proofs.lemmas.Fmt.{decimal_digit, decimal_nonempty, first_decimal, digits_decimal, digits_value-decimal, decimal-digits_value}
-use Rattle.std.proofs.lemmas.Bool.{cases_lt}
 use Rattle.account.specs.Numbers.{Digits, value_on, Writes, NumbersAreWritten}
 
 own : IsNumeralModel Digits (value_on 0)
 own = numerals_by_fold _ (search rules) value_on (search rules)
 
 no_front_zero : (n : ℕ) → n < 2 ^ 64 → get_or (decimal n) 0 0 ≡ 48 → length (decimal n) ≡ 1
-no_front_zero n h e =
-    ⊎_elim
-    (λ (l : 0 < n). absurd (omega (arith, first_decimal n l h)))
-    (λ (l : n ≤ 0). ap length (decimal_digit n (omega arith)))
-    (cases_lt 0 n)
+no_front_zero n h e = grind (arith, first_decimal, decimal_digit)
 
 written : (n : ℕ) → n < 2 ^ 64 → Writes (decimal n) n
 written n h = record { digits = digits_decimal own n h; some = decimal_nonempty n h; value = digits_value-decimal own n h; shortest = no_front_zero n h }

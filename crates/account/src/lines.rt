@@ -1,13 +1,13 @@
 ghost use Rattle.std.specs.Prelude.{◌≡◌, ◌++◌, IfOk, Some, string_bytes, OnOk};
 ghost use Rattle.account.specs.Numbers.{NumbersAreWritten};
-ghost use Rattle.account.specs.Text.{digit_of, words_of, text_of, account};
+ghost use Rattle.account.specs.Text.{words_of, text_of, account};
 
 use desks::Refusal;
 use std::alloc::{AllocError, Global};
 use std::fmt;
 
 // What a figure holds at a desk.
-#[derive(Clone, Copy)]
+#[derive(Clone, Copy, Debug, PartialEq, Eq)]
 pub struct FigureLine {
     pub desk: u8,
     pub figure: u16,
@@ -15,14 +15,14 @@ pub struct FigureLine {
 }
 
 // What a desk needs.
-#[derive(Clone, Copy)]
+#[derive(Clone, Copy, Debug, PartialEq, Eq)]
 pub struct NeedLine {
     pub desk: u8,
     pub need: i64,
 }
 
 // A line of a script's account.
-#[derive(Clone, Copy)]
+#[derive(Clone, Copy, Debug, PartialEq, Eq)]
 pub enum Line {
     Formed,
     Opening,
@@ -37,13 +37,6 @@ pub enum Line {
     Refused(Refusal, usize),
 }
 
-// The digit of a yes or a no.
-fn digit(yes: bool) -> u8
-    ensures { result ≡ digit_of yes }
-{
-    if yes { 1 } else { 0 }
-}
-
 impl fmt::Display for Line {
     ghost output = { λ line. Some (words_of line) };
 
@@ -52,18 +45,15 @@ impl fmt::Display for Line {
             Line::Formed => write!(f, "F"),
             Line::Opening => write!(f, "O"),
             Line::Opened => write!(f, "G"),
-            Line::Quiet(quiet) => write!(f, "Q {}", digit(quiet)),
-            Line::Closed(closed) => write!(f, "Z {}", digit(closed)),
+            Line::Quiet(quiet) => write!(f, "Q {}", u8::from(quiet)),
+            Line::Closed(closed) => write!(f, "Z {}", u8::from(closed)),
             Line::Figure(line) => write!(f, "= {} {} {}", line.desk, line.figure, line.value),
             Line::Need(line) => write!(f, "H {} {}", line.desk, line.need),
             Line::Refused(refusal, offset) => {
                 write!(
                     f,
                     "! {} {} {} {}",
-                    refusal.number,
-                    refusal.layer.letter(),
-                    refusal.place,
-                    offset
+                    refusal.number, refusal.layer, refusal.place, offset
                 )
             }
         }
@@ -71,14 +61,12 @@ impl fmt::Display for Line {
 }
 
 // Adds the text of a line, ended by a newline.
+#[tactic(auto, using(crate::proofs::Decimal::numbers_are_written))]
 pub fn write_line(out: &mut String, line: Line) -> Result<(), AllocError>
     ensures text { OnOk result (string_bytes out.new ≡ string_bytes out.old ++ text_of line) }
     ensures numbers { NumbersAreWritten }
 {
-    match writeln!(out, "{line}") {
-        Ok(()) => Ok(()),
-        Err(_) => Err(AllocError),
-    }
+    writeln!(out, "{line}")
 }
 
 // The text of all lines.

@@ -1,7 +1,7 @@
 -- Figures that items change, each at its place: order does not matter, and the sum changes by the sum of the changes.
 use Rattle.std.proofs.Common.{◌≡◌, ℕ, zero, suc, ◌+◌, ◌<◌, cond, List, [], ◌∷◌, length, get_or, take, ℤ, pos, ◌+ℤ◌, sym, refl, ap, ◌∙◌, ⊎_elim, arith}
 use lib.IntN.{+ℤ_assoc, +ℤ_comm, +ℤ_idr, +ℤ_idl}
-use Rattle.std.proofs.lemmas.List.{ext_get_or}
+use Rattle.std.proofs.lemmas.List.{ext_get_or, take_all}
 use Rattle.std.proofs.lemmas.Int.{ints}
 use Rattle.std.proofs.lemmas.Bool.{eq-eqb, ne_eqb, cases_eq}
 use Rattle.book.specs.Rules.{shifted, total, at_place}
@@ -70,11 +70,11 @@ shifted_twice (z ∷ zs) change other =
     let t = shifted_twice zs (λ i. change (suc i)) (λ i. other (suc i)) in
     λ i. h i ∷ t i
 
--- one figure more
-pub total_more : (f : List ℤ) (i : ℕ) → i < length f → total (take (i + 1) f) ≡ total (take i f) +ℤ get_or f i (pos 0)
-total_more [] i h = absurd (omega (arith, h))
-total_more (z ∷ zs) zero h = +ℤ_idr z ∙ sym (+ℤ_idl z)
-total_more (z ∷ zs) (suc i) h =
+-- one figure more, and 0 where there is none
+pub total_more : (f : List ℤ) (i : ℕ) → total (take (i + 1) f) ≡ total (take i f) +ℤ get_or f i (pos 0)
+total_more [] i = ap total (take_all (i + 1) [] (omega arith)) ∙ sym (ap (λ y. total y +ℤ pos 0) (take_all i [] (omega arith)))
+total_more (z ∷ zs) zero = +ℤ_idr z ∙ sym (+ℤ_idl z)
+total_more (z ∷ zs) (suc i) =
     let e : suc i + 1 ≡ suc (i + 1) = omega arith in
-    let t = total_more zs i (omega (arith, h)) in
+    let t = total_more zs i in
     ap (λ k. total (take k (z ∷ zs))) e ∙ ap (λ y. z +ℤ y) t ∙ sym (+ℤ_assoc z (total (take i zs)) (get_or zs i (pos 0)))

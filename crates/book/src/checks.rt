@@ -6,15 +6,13 @@ ghost use Rattle.desks.specs.declared.faults.FormFault.TheVariants.{Range, Memor
 ghost use Rattle.book.specs.declared.faults.BookFault.TheVariants.{Form, Desk};
 
 use crate::faults::BookFault;
-use desks::{FormFault, Parameter};
+use desks::Parameter;
 
 // Whether a group may have that many desks.
 pub fn check_desks(desks: u8) -> Result<(), BookFault>
     ensures { result ≡ unless (first ((outside 2 16 desks, Form (Range Desks)) ∷ [])) tt }
 {
-    if desks < 2 || desks > 16 {
-        return Err(BookFault::Form(FormFault::Range(Parameter::Desks)));
-    }
+    Parameter::Desks.check(desks)?;
     Ok(())
 }
 
@@ -22,9 +20,7 @@ pub fn check_desks(desks: u8) -> Result<(), BookFault>
 pub fn check_memory(bytes: usize, needed: usize) -> Result<(), BookFault>
     ensures { result ≡ unless (first ((nat_lt bytes needed, Form (Memory needed)) ∷ [])) tt }
 {
-    if bytes < needed {
-        return Err(BookFault::Form(FormFault::Memory(needed)));
-    }
+    desks::check_memory(bytes, needed)?;
     Ok(())
 }
 

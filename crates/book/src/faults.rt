@@ -1,8 +1,14 @@
 ghost use Rattle.std.specs.Prelude.{◌≡◌};
-ghost use Rattle.book.specs.declared.faults.BookFault.TheVariants.{Form};
+ghost use Rattle.book.specs.declared.faults.BookFault.TheVariants.{Form, Malformed};
 ghost use Rattle.book.specs.Refusals.{book_refusal};
 
 use desks::{FormFault, ITEM_SIZE, Layer, Refusal};
+
+// An item is not well-formed: its first wrong field begins at this offset.
+#[derive(Clone, Copy, PartialEq, Eq, Debug)]
+pub struct WrongField {
+    pub offset: u8,
+}
 
 // Why a book declines a call.
 #[derive(Clone, Copy, PartialEq, Eq, Debug)]
@@ -31,44 +37,33 @@ impl From<FormFault> for BookFault {
     }
 }
 
-impl BookFault {
-    // What it says.
-    pub fn refusal(self) -> Refusal
-        ensures { result ≡ book_refusal self }
-    {
+impl From<WrongField> for BookFault {
+    ghost from_gives = { λ f r. r ≡ Malformed f.offset };
+
+    fn from(f: WrongField) -> BookFault {
+        BookFault::Malformed(f.offset)
+    }
+}
+
+// What it says.
+impl From<BookFault> for Refusal {
+    ghost from_gives = { λ f r. r ≡ book_refusal f };
+
+    fn from(f: BookFault) -> Refusal {
         let layer = Layer::Book;
-        match self {
-            BookFault::Form(fault) => fault.refusal(layer),
-            BookFault::Desk(desk) => Refusal {
-                number: 5,
-                layer,
-                place: desk as usize,
-            },
-            BookFault::Figure(figure) => Refusal {
-                number: 5,
-                layer,
-                place: figure as usize,
-            },
-            BookFault::Malformed(offset) => Refusal {
-                number: 6,
-                layer,
-                place: offset as usize,
-            },
-            BookFault::Amount => Refusal {
-                number: 6,
-                layer,
-                place: ITEM_SIZE,
-            },
-            BookFault::NotAdmitted(origin) => Refusal {
-                number: 25,
-                layer,
-                place: origin as usize,
-            },
-            BookFault::Full(desk) => Refusal {
-                number: 30,
-                layer,
-                place: desk as usize,
-            },
+        let (number, place) = match f {
+            BookFault::Form(fault) => return fault.refusal(layer),
+            BookFault::Desk(desk) => (5, usize::from(desk)),
+            BookFault::Figure(figure) => (5, usize::from(figure)),
+            BookFault::Malformed(offset) => (6, usize::from(offset)),
+            BookFault::Amount => (6, ITEM_SIZE),
+            BookFault::NotAdmitted(origin) => (25, usize::from(origin)),
+            BookFault::Full(desk) => (30, usize::from(desk)),
+        };
+        Refusal {
+            number,
+            layer,
+            place,
         }
     }
 }

@@ -6,13 +6,13 @@ ghost use Rattle.desks.specs.Firsts.{first, unless};
 ghost use Rattle.book.specs.Model.{BookModel};
 ghost use Rattle.book.specs.Calls.{bytes_reply, form_tests, Made, Opens, malformed_reply, admits_reply, Enters, figure_reply, count_reply, need_reply, rules_of, Forms};
 
-use desks::ITEM_SIZE;
-
 mod checks;
 mod faults;
+mod item;
 
 pub use checks::{check_desk, check_desks, check_memory};
-pub use faults::BookFault;
+pub use faults::{BookFault, WrongField};
+pub use item::{Item, Opening};
 
 // The copies of a book at the desks of a group. Each desk has figures, and enters items one by one; what an item is and does
 // to them is the book's own.
@@ -27,7 +27,7 @@ pub trait Book<'a>: Sized {
     fn check(desks: u8, memory: &[u8]) -> Result<(), BookFault>
         ensures { result ≡ unless (first (form_tests model desks (length memory.now))) tt };
 
-    // A new book.
+    // A new book. The desks are no part of the memory, which may be larger than they need.
     fn make(desks: u8, memory: &'a mut [u8]) -> Self
         requires { first (form_tests model desks (length memory.old)) ≡ None }
         ensures { Made model desks memory.old result };
@@ -40,20 +40,20 @@ pub trait Book<'a>: Sized {
         ensures { result ≡ (rules_of model self.now).width };
 
     // Sets one figure of every desk.
-    fn open(&mut self, figure: u16, amount: i32) -> Result<(), BookFault>
-        ensures { Opens model self.old figure amount result self.new };
+    fn open(&mut self, opening: Opening) -> Result<(), BookFault>
+        ensures { Opens model self.old opening.figure opening.amount result self.new };
 
     // The offset of the item's first wrong field; none if it is well-formed.
-    fn malformed(&self, origin: u8, item: [u8; ITEM_SIZE]) -> Result<Option<u8>, BookFault>
-        ensures { result ≡ malformed_reply model self.now origin item };
+    fn malformed(&self, item: Item) -> Result<Option<u8>, BookFault>
+        ensures { result ≡ malformed_reply model self.now item.origin item.bytes };
 
     // Whether the desk may enter the item now.
-    fn admits(&self, desk: u8, origin: u8, item: [u8; ITEM_SIZE]) -> Result<bool, BookFault>
-        ensures { result ≡ admits_reply model self.now desk origin item };
+    fn admits(&self, desk: u8, item: Item) -> Result<bool, BookFault>
+        ensures { result ≡ admits_reply model self.now desk item.origin item.bytes };
 
     // Enters the item at the desk.
-    fn enter(&mut self, desk: u8, origin: u8, item: [u8; ITEM_SIZE]) -> Result<(), BookFault>
-        ensures { Enters model self.old desk origin item result self.new };
+    fn enter(&mut self, desk: u8, item: Item) -> Result<(), BookFault>
+        ensures { Enters model self.old desk item.origin item.bytes result self.new };
 
     fn figure(&self, desk: u8, figure: u16) -> Result<i64, BookFault>
         ensures value { result ≡ figure_reply model self.now desk figure }

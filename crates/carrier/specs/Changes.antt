@@ -1,6 +1,6 @@
 -- What a call of a carrier may change, whatever the carrier. Assumes nothing.
 use Rattle.std.specs.Prelude.{◌≡◌, ℕ, ◌+◌, ◌≤◌, Bool, true, false, ◌≢◌, ◌⊎◌, List, [], ◌∷◌, ◌++◌, length, Some, None, Ok, Err, Result, slice_set}
-use Rattle.std.specs.List.{slice_get, AllByRecursion}
+use Rattle.std.specs.List.{slice_get, All}
 use Rattle.desks.specs.declared.group.Group.{Group}
 use Rattle.desks.specs.Firsts.{first}
 use Rattle.frame.specs.declared.kinds.Kind.TheVariants.{Init}
@@ -38,7 +38,7 @@ pub record Adds (before after : List Posted) (d o k : ℕ) (c : Content) (sent :
   pub count : length frames ≡ sent
   pub few : sent ≤ most_sent
   pub whole : after ≡ before ++ frames
-  pub fresh : AllByRecursion (Fresh d o k c) frames
+  pub fresh : All (Fresh d o k c) frames
 
 -- what the desks accepted is as it was
 abbrev pub AcceptsNothing : Meaning → Meaning → Type 0

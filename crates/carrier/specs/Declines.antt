@@ -5,7 +5,7 @@ use Rattle.desks.specs.declared.faults.Parameter.TheVariants.{Desks, Numbers}
 use Rattle.desks.specs.declared.faults.FormFault.{FormFault}
 use Rattle.desks.specs.declared.faults.FormFault.TheVariants.{Range, Memory}
 use Rattle.desks.specs.Firsts.{Tests, tests_above}
-use Rattle.desks.specs.Forming.{outside, ranges, bounds, parameters_under}
+use Rattle.desks.specs.Forming.{outside, out_of_range, ranges, bounds, parameters_under}
 use Rattle.desks.specs.Sizes.{item_size}
 use Rattle.frame.specs.declared.kinds.Kinds.{Kinds}
 use Rattle.frame.specs.declared.faults.FrameFault.TheVariants.{Length, Origin, Number}
@@ -14,9 +14,9 @@ use Rattle.carrier.specs.declared.faults.CarrierFault.{CarrierFault}
 use Rattle.carrier.specs.declared.faults.CarrierFault.TheVariants.{Form, Desk, Frame, Faulty, CorrectPeer, NoNumber, NoRoom, NoFrame}
 use Rattle.carrier.specs.Meaning.{Content, Meaning, faulty}
 
--- the bytes needed: 2 to 16 desks, 1 to 64 numbers
+-- the bytes needed: desks and numbers are in their ranges
 abbrev pub size_tests : ℕ → ℕ → Tests CarrierFault
-size_tests n s = (outside 2 16 n, Form (Range Desks)) ∷ (outside 1 64 s, Form (Range Numbers)) ∷ []
+size_tests n s = (out_of_range Desks n, Form (Range Desks)) ∷ (out_of_range Numbers s, Form (Range Numbers)) ∷ []
 
 -- making, on so many bytes of memory where `needed` are needed
 abbrev pub form_tests : ℕ → ℕ → Group → ℕ → Tests FormFault

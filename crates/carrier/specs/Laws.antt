@@ -1,6 +1,6 @@
 -- What every carrier shows of each of its states. Assumes nothing.
 use Rattle.std.specs.Prelude.{◌≡◌, ℕ, ◌+◌, ◌-◌, ◌*◌, ◌<◌, ◌≤◌, true, [], length, Some, slice_index_or}
-use Rattle.std.specs.List.{AllByRecursion}
+use Rattle.std.specs.List.{All}
 use Rattle.desks.specs.declared.group.Group.{Group}
 use Rattle.desks.specs.Sizes.{item_size}
 use Rattle.wire.specs.Posted.{Posted}
@@ -28,10 +28,10 @@ Taken m f = (d : ℕ) → Correct m.group d → f.taken d ≡ true
 
 -- so was every frame of one identity; so was every frame
 abbrev pub TakenUnder : Meaning → ℕ → ℕ → Type 0
-TakenUnder m o k = AllByRecursion (λ f. f.origin ≡ o → f.number ≡ k → Taken m f) m.wire
+TakenUnder m o k = All (λ f. f.origin ≡ o → f.number ≡ k → Taken m f) m.wire
 
 abbrev pub AllTaken : Meaning → Type 0
-AllTaken m = AllByRecursion (Taken m) m.wire
+AllTaken m = All (Taken m) m.wire
 
 -- of one identity: what one correct desk accepted all have, and what a correct origin offered all have
 pub record TogetherUnder (m : Meaning) (o k : ℕ) : Type 0 where
@@ -58,8 +58,8 @@ pub record Within (g : Group) (d o k : ℕ) (x : Content) : Type 0 where
 -- contents have their size, and identities are in range
 pub record Shaped (m : Meaning) : Type 0 where
   pub accepted : (d o k : ℕ) (x : Content) → m.accepted d o k ≡ Some x → Within m.group d o k x
-  pub wire : AllByRecursion (λ f. Within m.group f.sender f.origin f.number f.content) m.wire
-  pub offered : (d : ℕ) → AllByRecursion (Sized m.group) (m.offered d)
+  pub wire : All (λ f. Within m.group f.sender f.origin f.number f.content) m.wire
+  pub offered : (d : ℕ) → All (Sized m.group) (m.offered d)
   pub few : (d : ℕ) → length (m.offered d) ≤ m.group.numbers
 
 pub record Laws (m : Meaning) : Type 0 where

@@ -4,18 +4,14 @@ ghost use Rattle.carrier.specs.Declines.{size_tests, form_tests};
 ghost use Rattle.carrier.specs.declared.faults.CarrierFault.TheVariants.{Form};
 
 use crate::faults::CarrierFault;
-use desks::{FormFault, Group, Parameter};
+use desks::{Group, Parameter, check_memory};
 
 // Whether a group may have that many desks and numbers.
 pub fn check_size(desks: u8, numbers: u8) -> Result<(), CarrierFault>
     ensures { result ≡ unless (first (size_tests desks numbers)) tt }
 {
-    if desks < 2 || desks > 16 {
-        return Err(CarrierFault::Form(FormFault::Range(Parameter::Desks)));
-    }
-    if numbers < 1 || numbers > 64 {
-        return Err(CarrierFault::Form(FormFault::Range(Parameter::Numbers)));
-    }
+    Parameter::Desks.check(desks)?;
+    Parameter::Numbers.check(numbers)?;
     Ok(())
 }
 
@@ -31,8 +27,6 @@ pub fn check_group(
     let parameters = group.under(factor);
     parameters.check_ranges()?;
     parameters.check_bounds()?;
-    if memory < needed {
-        return Err(CarrierFault::Form(FormFault::Memory(needed)));
-    }
+    check_memory(memory, needed)?;
     Ok(())
 }

@@ -56,21 +56,21 @@ fn own(number: u8, place: usize) -> Refusal
     }
 }
 
-impl CarrierFault {
-    // What it says.
-    pub fn refusal(self) -> Refusal
-        ensures { result ≡ carrier_refusal self }
-    {
-        match self {
+// What it says.
+impl From<CarrierFault> for Refusal {
+    ghost from_gives = { λ fault r. r ≡ carrier_refusal fault };
+
+    fn from(fault: CarrierFault) -> Refusal {
+        match fault {
             CarrierFault::Form(fault) => fault.refusal(Layer::Carrier),
-            CarrierFault::Desk(desk) => own(5, desk as usize),
-            CarrierFault::Frame(fault) => fault.refusal(),
-            CarrierFault::Faulty(desk) => own(21, desk as usize),
-            CarrierFault::CorrectPeer(peer) => own(22, peer as usize),
-            CarrierFault::NoNumber(desk) => own(23, desk as usize),
+            CarrierFault::Desk(desk) => own(5, usize::from(desk)),
+            CarrierFault::Frame(fault) => Refusal::from(fault),
+            CarrierFault::Faulty(desk) => own(21, usize::from(desk)),
+            CarrierFault::CorrectPeer(peer) => own(22, usize::from(peer)),
+            CarrierFault::NoNumber(desk) => own(23, usize::from(desk)),
             CarrierFault::NoRoom(held) => own(26, held),
             CarrierFault::NoFrame(place) => own(27, place),
-            CarrierFault::Second(origin) => own(28, origin as usize),
+            CarrierFault::Second(origin) => own(28, usize::from(origin)),
         }
     }
 }

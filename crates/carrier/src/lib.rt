@@ -70,7 +70,8 @@ pub trait Carrier<'a>: Sized {
     fn offer(&mut self, desk: u8, content: &[u8]) -> Result<u8, CarrierFault>
         ensures { model.offers self.old desk content.now result self.new };
 
-    // A desk takes the frame at a place: how many frames it sent, and whether it accepted a content.
+    // A desk takes the frame at a place: how many frames it sent, and whether it accepted a content. Every layer above answers
+    // the same pair.
     fn take(&mut self, place: usize, desk: u8) -> Result<(u8, bool), CarrierFault>
         ensures { model.takes self.old place desk result self.new };
 
@@ -79,7 +80,8 @@ pub trait Carrier<'a>: Sized {
         ensures { model.feigns self.old peer desk bytes.now result self.new };
 }
 
-// Forms a carrier on lent memory, or says why not.
+// Forms a carrier on lent memory, or says why not. A book's `form` is alike and has no parameter in common with it but the
+// memory: one function for both would take a trait of its own for what is made of what.
 pub fn form<'a, C: Carrier<'a>>(
     group: Group,
     memory: &'a mut [u8],

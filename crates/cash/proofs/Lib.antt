@@ -1,2 +1,1 @@
 pub mod Balances
-mod Enter

@@ -1,6 +1,7 @@
 pub mod Payments
 pub mod Cash
 pub mod Laws
-pub mod Model
 pub mod Sums
 pub mod Sample
+pub mod Entries
+pub mod Model

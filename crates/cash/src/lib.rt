@@ -7,12 +7,14 @@ ghost use Rattle.cash.specs.Cash.{cash, balance_limit};
 ghost use Rattle.cash.specs.Sample.{Sample};
 ghost use Rattle.cash.specs.Sums.{KeepsSum, PaysToTheLast};
 
-mod calls;
+use copies::Copies;
+
 mod payment;
-mod table;
 
 pub use payment::Payment;
-pub use table::Cash;
+
+// Each desk's copy of all balances: figure d is the balance of desk d.
+pub type Cash<'a> = Copies<'a, Payment>;
 
 // No balance lies beyond it. For any number of desks the rules keep the laws of a book, and a sample meets what these ask;
 // a payment keeps the sum of the balances, and a balance pays itself out to the last and no more.

@@ -1,37 +1,53 @@
-use crate::payment::Payment;
-use crate::table::Cash;
-use book::{Book, BookFault, form};
-use desks::ITEM_SIZE;
+use crate::{Cash, Payment};
+use book::{Book, BookFault, Item, Opening, form};
+use copies::Entry;
+use desks::{ITEM_SIZE, Refusal};
 use std::process::Abort;
 use std::test::Fail;
 
-fn item(kind: u8, payee: u8, amount: u32, zeros: [u8; 2]) -> [u8; ITEM_SIZE] {
+fn bytes(kind: u8, payee: u8, amount: u32, zeros: [u8; 2]) -> [u8; ITEM_SIZE] {
     let [a, b, c, d] = amount.to_be_bytes();
     let [e, f] = zeros;
     [kind, payee, a, b, c, d, e, f]
+}
+
+fn item(origin: u8, kind: u8, payee: u8, amount: u32) -> Item {
+    Item {
+        origin,
+        bytes: bytes(kind, payee, amount, [0, 0]),
+    }
+}
+
+fn opening(figure: u16, amount: i32) -> Opening {
+    Opening { figure, amount }
 }
 
 // Each field at its edges, for desk 1 of 3, and the offset of the first wrong one.
 #[test]
 fn reads_each_field_to_its_edges(rt: HostRuntime) {
     let cases = [
-        (item(2, 0, 1, [0, 0]), Some(0)),
-        (item(3, 0, 1, [0, 0]), None),
-        (item(4, 0, 1, [0, 0]), Some(0)),
-        (item(3, 1, 1, [0, 0]), Some(1)),
-        (item(3, 2, 1, [0, 0]), None),
-        (item(3, 3, 1, [0, 0]), Some(1)),
-        (item(3, 0, 0, [0, 0]), Some(2)),
-        (item(3, 0, 1_000_000, [0, 0]), None),
-        (item(3, 0, 1_000_001, [0, 0]), Some(2)),
-        (item(3, 0, 1, [1, 0]), Some(6)),
-        (item(3, 0, 1, [0, 1]), Some(6)),
-        (item(0, 1, 0, [1, 1]), Some(0)),
-        (item(3, 1, 0, [1, 1]), Some(1)),
-        (item(3, 0, 0, [1, 1]), Some(2)),
+        (bytes(2, 0, 1, [0, 0]), Some(0)),
+        (bytes(3, 0, 1, [0, 0]), None),
+        (bytes(4, 0, 1, [0, 0]), Some(0)),
+        (bytes(3, 1, 1, [0, 0]), Some(1)),
+        (bytes(3, 2, 1, [0, 0]), None),
+        (bytes(3, 3, 1, [0, 0]), Some(1)),
+        (bytes(3, 0, 0, [0, 0]), Some(2)),
+        (bytes(3, 0, 1_000_000, [0, 0]), None),
+        (bytes(3, 0, 1_000_001, [0, 0]), Some(2)),
+        (bytes(3, 0, 1, [1, 0]), Some(6)),
+        (bytes(3, 0, 1, [0, 1]), Some(6)),
+        (bytes(0, 1, 0, [1, 1]), Some(0)),
+        (bytes(3, 1, 0, [1, 1]), Some(1)),
+        (bytes(3, 0, 0, [1, 1]), Some(2)),
     ];
-    for (item, wrong) in cases {
-        assert_eq!(rt; Payment::read(3, 1, item).err(), wrong);
+    for (bytes, wrong) in cases {
+        assert_eq!(rt;
+            Payment::read(3, Item { origin: 1, bytes })
+                .err()
+                .map(|fault| fault.offset),
+            wrong
+        );
     }
 }
 
@@ -50,7 +66,7 @@ fn open_to_the_edges<'a, B: Book<'a> + Drop>(
         (1, 1_000_000_001, Err(BookFault::Amount)),
     ];
     for (figure, amount, reply) in cases {
-        assert_eq!(rt; book.open(figure, amount), reply);
+        assert_eq!(rt; book.open(opening(figure, amount)), reply);
     }
     for desk in 0..2 {
         assert_eq!(rt; book.figure(desk, 0)?, 1_000_000_000);
@@ -71,19 +87,19 @@ fn pay_to_the_last<'a, B: Book<'a> + Drop>(
     memory: &'a mut [u8],
 ) -> Result<(), Fail> {
     let mut book = form::<B>(2, memory)?;
-    book.open(1, 100)?;
-    assert_eq!(rt; book.admits(0, 1, item(3, 0, 101, [0, 0])), Ok(false));
+    book.open(opening(1, 100))?;
+    assert_eq!(rt; book.admits(0, item(1, 3, 0, 101)), Ok(false));
     assert_eq!(rt;
-        book.enter(0, 1, item(3, 0, 101, [0, 0])),
+        book.enter(0, item(1, 3, 0, 101)),
         Err(BookFault::NotAdmitted(1))
     );
-    assert_eq!(rt; book.admits(0, 1, item(3, 0, 100, [0, 0])), Ok(true));
-    book.enter(0, 1, item(3, 0, 100, [0, 0]))?;
+    assert_eq!(rt; book.admits(0, item(1, 3, 0, 100)), Ok(true));
+    book.enter(0, item(1, 3, 0, 100))?;
     assert_eq!(rt;
-        book.enter(0, 1, item(3, 0, 1, [0, 0])),
+        book.enter(0, item(1, 3, 0, 1)),
         Err(BookFault::NotAdmitted(1))
     );
-    let refusal = BookFault::NotAdmitted(1).refusal();
+    let refusal = Refusal::from(BookFault::NotAdmitted(1));
     assert!(rt; refusal.number == 25 && refusal.layer.letter() == 'B' && refusal.place == 1);
     let cases = [(0, 100, 0, 1), (1, 0, 100, 0)];
     for (desk, payee, origin, count) in cases {
@@ -107,7 +123,7 @@ fn open_the_last_of_three<'a, B: Book<'a> + Drop>(
 ) -> Result<(), Fail> {
     let mut book = form::<B>(3, memory)?;
     assert_eq!(rt; book.figure(0, 2), Ok(0));
-    assert_eq!(rt; book.open(2, 7), Ok(()));
+    assert_eq!(rt; book.open(opening(2, 7)), Ok(()));
     assert_eq!(rt; book.figure(1, 2), Ok(7));
     assert_eq!(rt; book.figure(1, 3), Err(BookFault::Figure(3)));
     Ok(())

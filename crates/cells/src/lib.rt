@@ -1,10 +1,23 @@
 // Lent bytes cut into cells of equal width: cell i is the `width` bytes from i * width on, there if it ends within the bytes.
 #![tactic(auto)]
 
-ghost use Rattle.std.specs.Prelude.{◌≡◌, length, replicate};
+ghost use Rattle.std.specs.Prelude.{◌≡◌, length, replicate, is_ok};
 ghost use Rattle.std.specs.Option.{option_copied};
-ghost use Rattle.cells.specs.Cell.{start_of, cell, Put, Cleared};
+ghost use Rattle.desks.specs.Firsts.{first, unless};
+ghost use Rattle.cells.specs.Cell.{range_of, cell, put_tests, Put, Cleared};
 
+use std::ops::Range;
+
+// Why bytes are not put into a cell.
+#[derive(Clone, Copy, PartialEq, Eq, Debug)]
+pub enum CellFault {
+    // They are not as many as a cell is wide.
+    Width,
+    // The cell is not there.
+    Absent,
+}
+
+// The bytes are lent. The width is no parameter of the type: who makes cells may learn it only as the program runs.
 #[derive(Drop)]
 pub struct Cells<'a> {
     bytes: &'a mut [u8],
@@ -28,40 +41,33 @@ impl<'a> Cells<'a> {
         self.width
     }
 
-    // Where cell i begins, if it is there.
-    fn start(&self, i: usize) -> Option<usize>
-        ensures { result ≡ start_of self.now i }
+    // Where the bytes of cell i lie, if it is there.
+    fn range(&self, i: usize) -> Option<Range<usize>>
+        ensures { result ≡ range_of self.now i }
     {
-        let from = i.checked_mul(self.width)?;
-        let to = from.checked_add(self.width)?;
-        if to <= self.bytes.len() {
-            Some(from)
-        } else {
-            None
-        }
+        let start = i.checked_mul(self.width)?;
+        let end = start.checked_add(self.width)?;
+        (end <= self.bytes.len()).then_some(start..end)
     }
 
     // The bytes of cell i.
     pub fn get(&self, i: usize) -> Option<&[u8]>
         ensures { option_copied result ≡ cell self.now i }
     {
-        let from = self.start(i)?;
-        Some(&self.bytes[from..from + self.width])
+        Some(&self.bytes[self.range(i)?])
     }
 
-    // Cell i holds x from here on: true if the cell is there and x has the width, else false and nothing changed.
-    pub fn put(&mut self, i: usize, x: &[u8]) -> bool
-        ensures { Put self.old i x.now result self.new }
+    // Cell i holds x from here on. On a fault nothing changes.
+    pub fn put(&mut self, i: usize, x: &[u8]) -> Result<(), CellFault>
+        ensures reply { result ≡ unless (first (put_tests self.old i x.now)) tt }
+        ensures change { Put self.old i x.now (is_ok result) self.new }
     {
         if x.len() != self.width {
-            return false;
+            return Err(CellFault::Width);
         }
-        let Some(from) = self.start(i) else {
-            return false;
-        };
-        let to = from + self.width;
-        self.bytes[from..to].copy_from_slice(x);
-        true
+        let range = self.range(i).ok_or(CellFault::Absent)?;
+        self.bytes[range].copy_from_slice(x);
+        Ok(())
     }
 
     // Every byte 0.

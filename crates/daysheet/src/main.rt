@@ -9,6 +9,6 @@ fn main(rt: HostRuntime) -> io::Result<()> {
     let heap = rt.alloc();
     let mut script = Vec::new(heap);
     rt.stdin().read_to_end(&mut script)?;
-    let text = account_text(heap, script.as_slice())?;
+    let text = account_text(heap, &script)?;
     rt.stdout().write_all(text.as_bytes())
 }

@@ -1,8 +1,8 @@
-ghost use Rattle.std.specs.Prelude.{◌≡◌, not, Some, [], ◌∷◌};
+ghost use Rattle.std.specs.Prelude.{◌≡◌, not, Some, [], ◌∷◌, nat_lt};
 ghost use Rattle.desks.specs.Firsts.{first, unless};
 ghost use Rattle.desks.specs.Forming.{out_of_range};
 ghost use Rattle.desks.specs.Refusals.{letter_of, place_of, form_refusal};
-ghost use Rattle.desks.specs.declared.faults.FormFault.TheVariants.{Range};
+ghost use Rattle.desks.specs.declared.faults.FormFault.TheVariants.{Range, Memory};
 
 use std::fmt;
 
@@ -17,7 +17,7 @@ pub enum Layer {
 }
 
 impl Layer {
-    // The letter that a refusal prints.
+    // The letter that a refusal prints. By `From` the call would not say what the character is.
     pub fn letter(self) -> char
         ensures { result ≡ letter_of self }
     {
@@ -39,7 +39,8 @@ impl fmt::Display for Layer {
     }
 }
 
-// What a refusal says: its number, the layer that gives it, and the place that it names.
+// What a refusal says: its number, the layer that gives it, and the place that it names. The number is what is printed; which
+// refusal it is stands in the layer's own enum of faults, and an enum of all numbers would name each fault twice.
 #[derive(Clone, Copy, PartialEq, Eq, Debug)]
 pub struct Refusal {
     pub number: u8,
@@ -58,7 +59,7 @@ pub enum Parameter {
 }
 
 impl Parameter {
-    // The place that a refusal names it by.
+    // The place that a refusal names it by. By `From` the call would not say what the number is.
     pub fn place(self) -> usize
         ensures { result ≡ place_of self }
     {
@@ -126,4 +127,14 @@ impl FormFault {
             place,
         }
     }
+}
+
+// Refuses memory of fewer bytes than are needed.
+pub fn check_memory(bytes: usize, needed: usize) -> Result<(), FormFault>
+    ensures { result ≡ unless (first ((nat_lt bytes needed, Memory needed) ∷ [])) tt }
+{
+    if bytes < needed {
+        return Err(FormFault::Memory(needed));
+    }
+    Ok(())
 }

@@ -5,7 +5,7 @@ mod faults;
 mod group;
 mod set;
 
-pub use faults::{FormFault, Layer, Parameter, Refusal};
+pub use faults::{FormFault, Layer, Parameter, Refusal, check_memory};
 pub use group::{Group, GroupParameters};
 pub use set::DeskSet;
 

@@ -34,7 +34,7 @@ impl DeskSet {
         }
     }
 
-    // How many desks are in it.
+    // How many desks are in it: at most 16, which no conversion without a fault could know.
     pub fn size(self) -> u8
         ensures { result ≡ size_of self.bits }
     {

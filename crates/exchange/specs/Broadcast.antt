@@ -1,8 +1,8 @@
 -- A broadcast protocol as a carrier uses it. Assumes nothing.
 use Rattle.std.specs.Prelude.{◌≡◌, ℕ, ◌≤◌, Bool, true, false, ◌⊎◌, [], length, Some, None}
-use Rattle.std.specs.List.{AllByRecursion}
+use Rattle.std.specs.List.{All}
 use Rattle.frame.specs.declared.kinds.Kind.{Kind}
-use Rattle.frame.specs.declared.kinds.Kind.TheVariants.{Init, Echo, Ready, Witness}
+use Rattle.frame.specs.declared.kinds.Kind.TheVariants.{Init}
 use Rattle.frame.specs.Kinds.{known_to, has_kind}
 use Rattle.quorum.specs.Frames.{Setting, Frame}
 use Rattle.quorum.specs.Machine.{Protocol}
@@ -12,9 +12,7 @@ use Rattle.carrier.specs.Declines.{most_sent}
 
 abbrev pub is_init : Kind → Bool
 is_init Init = true
-is_init Echo = false
-is_init Ready = false
-is_init Witness = false
+is_init _ = false
 
 -- a protocol over what a desk holds, D, and the kinds of its frames, K
 pub record Broadcast (D K : Type 0) : Type 0 where
@@ -46,7 +44,7 @@ pub record Regular {D K : Type 0} (B : Broadcast D K) : Type 0 where
   pub none : B.protocol.accepted B.protocol.blank ≡ None
   -- on a frame a desk sends at most so many, for the content received
   pub few : (S : Setting Content) (d : ℕ) (H : D) (p : ℕ) (k : K) (c : Content) → length (B.protocol.sends S d H (B.protocol.receive S H p k c) c) ≤ most_sent
-  pub sends : (S : Setting Content) (d : ℕ) (H : D) (p : ℕ) (k : K) (c : Content) → AllByRecursion (Sends B.code B.factor d c) (B.protocol.sends S d H (B.protocol.receive S H p k c) c)
+  pub sends : (S : Setting Content) (d : ℕ) (H : D) (p : ℕ) (k : K) (c : Content) → All (Sends B.code B.factor d c) (B.protocol.sends S d H (B.protocol.receive S H p k c) c)
   -- and accepts nothing, or the content received where it had nothing
   pub accepts : (S : Setting Content) (H : D) (p : ℕ) (k : K) (c : Content) →
       (B.protocol.accepted (B.protocol.receive S H p k c) ≡ B.protocol.accepted H) ⊎ ((B.protocol.accepted H ≡ None) × (B.protocol.accepted (B.protocol.receive S H p k c) ≡ Some c))

@@ -1,6 +1,6 @@
 -- What holds of every state that a carrier comes to by its exact steps. Assumes nothing.
 use Rattle.std.specs.Prelude.{◌≡◌, ℕ, ◌≤◌, true, length, Some}
-use Rattle.std.specs.List.{AllByRecursion}
+use Rattle.std.specs.List.{All}
 use Rattle.desks.specs.declared.group.Group.{Group}
 use Rattle.frame.specs.Kinds.{known_to, has_kind}
 use Rattle.wire.specs.Posted.{Posted}
@@ -20,7 +20,7 @@ module _ {D K : Type 0} (B : Broadcast D K) where
     pub valid : Valid B.factor x.group
     -- the network is one that the protocol comes to
     pub attained : Attained B.protocol (common x.group) (network B x)
-    pub framed : AllByRecursion (Framed B.factor x.group) x.wire
+    pub framed : All (Framed B.factor x.group) x.wire
     pub accepted : (d o k : ℕ) (c : Content) → B.protocol.accepted (x.desk o k d) ≡ Some c → Within x.group d o k c
     pub few : (d : ℕ) → length (offers_of x.wire d) ≤ x.group.numbers
     pub fits : length x.wire ≤ x.places

@@ -1,12 +1,12 @@
 -- The check of forming: the parameters, the book's code, what they say together, and the memory, in that order. Assumes nothing.
-use Rattle.std.specs.Prelude.{ℕ, cond, not, ◌&&◌, [], ◌∷◌, ◌++◌, Result, ◌==◌, nat_lt}
+use Rattle.std.specs.Prelude.{ℕ, cond, [], ◌∷◌, ◌++◌, Result, ◌==◌, nat_lt}
 use Rattle.std.specs.Option.{option_map}
 use Rattle.desks.specs.declared.faults.Parameter.TheVariants.{BookCode}
 use Rattle.desks.specs.declared.faults.FormFault.{FormFault}
 use Rattle.desks.specs.declared.faults.FormFault.TheVariants.{Range, Memory}
 use Rattle.desks.specs.declared.group.GroupParameters.{GroupParameters}
 use Rattle.desks.specs.Firsts.{Tests, first, unless}
-use Rattle.desks.specs.Forming.{ranges, bounds}
+use Rattle.desks.specs.Forming.{out_of_range, ranges, bounds}
 use Rattle.positions.specs.Positions.{position_bytes}
 use Rattle.cash.specs.Cash.{cash_bytes}
 use Rattle.floor.specs.declared.forming.BookKind.{BookKind}
@@ -30,7 +30,7 @@ memory_test g code memory =
 
 -- the ranges of the group, of the book's code, the group's bounds, the memory
 abbrev pub behind_ranges : GroupParameters → ℕ → ℕ → Tests FormFault
-behind_ranges g code memory = (not (code == 1) && not (code == 2), Range BookCode) ∷ bounds g ++ memory_test g code memory
+behind_ranges g code memory = (out_of_range BookCode code, Range BookCode) ∷ bounds g ++ memory_test g code memory
 
 abbrev pub form_tests : GroupParameters → ℕ → ℕ → Tests FormFault
 form_tests g code memory = ranges g ++ behind_ranges g code memory

@@ -30,14 +30,14 @@ impl From<BookFault> for FloorFault {
     }
 }
 
-impl FloorFault {
-    // What it says.
-    pub fn refusal(self) -> Refusal
-        ensures { result ≡ floor_refusal self }
-    {
-        match self {
+// What it says.
+impl From<FloorFault> for Refusal {
+    ghost from_gives = { λ f r. r ≡ floor_refusal f };
+
+    fn from(f: FloorFault) -> Refusal {
+        match f {
             FloorFault::Form(fault) => fault.refusal(Layer::Floor),
-            FloorFault::Book(fault) => fault.refusal(),
+            FloorFault::Book(fault) => Refusal::from(fault),
         }
     }
 }

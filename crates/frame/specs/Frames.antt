@@ -13,23 +13,21 @@ frame_kind (Echo b) = kind.Echo
 frame_kind (Ready b) = kind.Ready
 frame_kind (Witness b) = kind.Witness
 
+-- what every kind has
+abbrev pub frame_body : Frame → Body
+frame_body (Init b) = b
+frame_body (Echo b) = b
+frame_body (Ready b) = b
+frame_body (Witness b) = b
+
 abbrev pub frame_origin : Frame → ℕ
-frame_origin (Init b) = b.origin
-frame_origin (Echo b) = b.origin
-frame_origin (Ready b) = b.origin
-frame_origin (Witness b) = b.origin
+frame_origin f = (frame_body f).origin
 
 abbrev pub frame_number : Frame → ℕ
-frame_number (Init b) = b.number
-frame_number (Echo b) = b.number
-frame_number (Ready b) = b.number
-frame_number (Witness b) = b.number
+frame_number f = (frame_body f).number
 
 abbrev pub frame_content : Frame → List ℕ
-frame_content (Init b) = b.content.now
-frame_content (Echo b) = b.content.now
-frame_content (Ready b) = b.content.now
-frame_content (Witness b) = b.content.now
+frame_content f = (frame_body f).content.now
 
 -- what a frame says, whatever holds its content
 pub record Saying : Type 0 where
@@ -38,12 +36,12 @@ pub record Saying : Type 0 where
   pub number : ℕ
   pub content : List ℕ
 
-abbrev pub saying : Frame → Saying
-saying f = record { kind = frame_kind f; origin = frame_origin f; number = frame_number f; content = frame_content f }
-
 -- what a frame of a kind says
 abbrev pub says : Kind → Body → Saying
 says k b = record { kind = k; origin = b.origin; number = b.number; content = b.content.now }
+
+abbrev pub saying : Frame → Saying
+saying f = says (frame_kind f) (frame_body f)
 
 -- the bytes of a frame: the code of its kind, its origin and its number, then its content
 abbrev pub bytes_of : Frame → List ℕ

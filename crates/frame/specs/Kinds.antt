@@ -1,5 +1,6 @@
 -- The kinds of frames: their codes, and those that the protocol of a factor knows. Assumes nothing.
 use Rattle.std.specs.Prelude.{ℕ, Bool, true, false, cond, Some, None, Option, ◌==◌}
+use Rattle.std.specs.Option.{option_map_or}
 use Rattle.frame.specs.declared.kinds.Kind.{Kind}
 use Rattle.frame.specs.declared.kinds.Kind.TheVariants.{Init, Echo, Ready, Witness}
 use Rattle.frame.specs.declared.kinds.Kinds.{Kinds}
@@ -30,5 +31,4 @@ has_kind ks Witness = ks.witness
 
 -- whether a code is that of a kind of the set
 abbrev pub has_code : Kinds → Option Kind → Bool
-has_code ks None = false
-has_code ks (Some k) = has_kind ks k
+has_code ks o = option_map_or (has_kind ks) o false

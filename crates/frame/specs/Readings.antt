@@ -1,5 +1,6 @@
 -- What the reader answers to bytes, and what the writer leaves in the output. Assumes nothing.
-use Rattle.std.specs.Prelude.{ℕ, ◌+◌, cond, not, ◌&&◌, List, [], ◌∷◌, ◌++◌, length, drop, Some, None, Ok, Err, Option, Result, ◌==◌, nat_le, nat_lt, slice_index}
+use Rattle.std.specs.Prelude.{ℕ, ◌+◌, cond, not, ◌&&◌, List, [], ◌∷◌, ◌++◌, length, drop, Ok, Err, Option, Result, ◌==◌, nat_le, nat_lt, slice_index}
+use Rattle.std.specs.Option.{unwrap_or}
 use Rattle.desks.specs.Firsts.{Tests, first, unless}
 use Rattle.desks.specs.Forming.{outside}
 use Rattle.desks.specs.Sizes.{item_size}
@@ -24,8 +25,7 @@ frame_tests bs n s ks peer =
 
 -- the kind that is there; INIT stands in where there is none, and no such bytes are read
 abbrev pub kind_or_init : Option Kind → Kind
-kind_or_init None = kind.Init
-kind_or_init (Some k) = k
+kind_or_init o = unwrap_or o kind.Init
 
 -- what bytes say: the kind of the first, the second and the third, and those behind them
 abbrev pub said : List ℕ → Saying

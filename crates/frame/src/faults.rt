@@ -20,43 +20,23 @@ pub enum FrameFault {
     Output(usize),
 }
 
-impl FrameFault {
-    // What it says. The place is that of the wrong byte, or a length.
-    pub fn refusal(self) -> Refusal
-        ensures { result ≡ frame_refusal self }
-    {
-        let layer = Layer::Frame;
-        match self {
-            FrameFault::Length(length) => Refusal {
-                number: 7,
-                layer,
-                place: length,
-            },
-            FrameFault::Kind => Refusal {
-                number: 8,
-                layer,
-                place: 0,
-            },
-            FrameFault::Origin => Refusal {
-                number: 9,
-                layer,
-                place: 1,
-            },
-            FrameFault::Number => Refusal {
-                number: 10,
-                layer,
-                place: 2,
-            },
-            FrameFault::Stranger => Refusal {
-                number: 11,
-                layer,
-                place: 1,
-            },
-            FrameFault::Output(needed) => Refusal {
-                number: 4,
-                layer,
-                place: needed,
-            },
+// What it says. The place is that of the wrong byte, or a length.
+impl From<FrameFault> for Refusal {
+    ghost from_gives = { λ fault r. r ≡ frame_refusal fault };
+
+    fn from(fault: FrameFault) -> Refusal {
+        let (number, place) = match fault {
+            FrameFault::Length(length) => (7, length),
+            FrameFault::Kind => (8, 0),
+            FrameFault::Origin => (9, 1),
+            FrameFault::Number => (10, 2),
+            FrameFault::Stranger => (11, 1),
+            FrameFault::Output(needed) => (4, needed),
+        };
+        Refusal {
+            number,
+            layer: Layer::Frame,
+            place,
         }
     }
 }

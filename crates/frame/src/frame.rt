@@ -1,11 +1,11 @@
 ghost use Rattle.std.specs.Prelude.{◌≡◌};
-ghost use Rattle.frame.specs.Frames.{frame_kind, frame_origin, frame_number, frame_content, saying, says};
+ghost use Rattle.frame.specs.Frames.{frame_kind, frame_body, frame_origin, frame_number, frame_content, saying, says};
 
 use crate::kinds::Kind;
 
 // Whose item a frame is of, which of that desk's items it is, and the content, a part of the bytes received: a barrier for
 // each desk, and the item.
-#[derive(Clone, Copy, Drop)]
+#[derive(Clone, Copy, Drop, PartialEq, Eq, Debug)]
 pub struct Body<'a> {
     pub origin: u8,
     pub number: u8,
@@ -13,7 +13,7 @@ pub struct Body<'a> {
 }
 
 // A frame, by its kind.
-#[derive(Clone, Copy, Drop)]
+#[derive(Clone, Copy, Drop, PartialEq, Eq, Debug)]
 pub enum Frame<'a> {
     Init(Body<'a>),
     Echo(Body<'a>),
@@ -65,15 +65,11 @@ impl<'a> Frame<'a> {
 
     // What every kind has.
     fn body(self) -> Body<'a>
-        ensures origin { result.origin ≡ frame_origin self.entry }
-        ensures number { result.number ≡ frame_number self.entry }
-        ensures content { result.content.now ≡ frame_content self.entry }
+        ensures { result ≡ frame_body self.entry }
     {
         match self {
-            Frame::Init(body) => body,
-            Frame::Echo(body) => body,
-            Frame::Ready(body) => body,
-            Frame::Witness(body) => body,
+            Frame::Init(body) | Frame::Echo(body) | Frame::Ready(body) | Frame::Witness(body) =>
+                body,
         }
     }
 }

@@ -1,8 +1,12 @@
 ghost use Rattle.std.specs.Prelude.{◌≡◌};
+ghost use Rattle.std.specs.Option.{ok_or};
+ghost use Rattle.frame.specs.declared.faults.FrameFault.TheVariants as fault;
 ghost use Rattle.frame.specs.Kinds.{code_of, kind_of, known_to, has_kind};
 
+use crate::faults::FrameFault;
+
 // What a frame says of its item.
-#[derive(Clone, Copy)]
+#[derive(Clone, Copy, PartialEq, Eq, Debug)]
 pub enum Kind {
     Init,
     Echo,
@@ -10,35 +14,39 @@ pub enum Kind {
     Witness,
 }
 
-impl Kind {
-    // The byte that a frame begins with.
-    pub fn code(self) -> u8
-        ensures { result ≡ code_of self }
-    {
-        match self {
+// The byte that a frame of the kind begins with.
+impl From<Kind> for u8 {
+    ghost from_gives = { λ kind r. r ≡ code_of kind };
+
+    fn from(kind: Kind) -> u8 {
+        match kind {
             Kind::Init => 1,
             Kind::Echo => 2,
             Kind::Ready => 3,
             Kind::Witness => 4,
         }
     }
+}
 
-    // The kind of a code, where it is one.
-    pub fn of(code: u8) -> Option<Kind>
-        ensures { result ≡ kind_of code }
-    {
+// The kind of a code, where it is one.
+impl TryFrom<u8> for Kind {
+    type Error = FrameFault;
+
+    ghost try_from_gives = { λ code r. r ≡ ok_or (kind_of code) fault.Kind };
+
+    fn try_from(code: u8) -> Result<Kind, FrameFault> {
         match code {
-            1 => Some(Kind::Init),
-            2 => Some(Kind::Echo),
-            3 => Some(Kind::Ready),
-            4 => Some(Kind::Witness),
-            _ => None,
+            1 => Ok(Kind::Init),
+            2 => Ok(Kind::Echo),
+            3 => Ok(Kind::Ready),
+            4 => Ok(Kind::Witness),
+            _ => Err(FrameFault::Kind),
         }
     }
 }
 
-// The set of kinds that a protocol knows.
-#[derive(Clone, Copy)]
+// The set of kinds that a protocol knows: four flags, since a factor may be that of no protocol.
+#[derive(Clone, Copy, PartialEq, Eq, Debug)]
 pub struct Kinds {
     init: bool,
     echo: bool,
@@ -47,6 +55,13 @@ pub struct Kinds {
 }
 
 impl Kinds {
+    const NONE: Kinds = Kinds {
+        init: false,
+        echo: false,
+        ready: false,
+        witness: false,
+    };
+
     // Those of the protocol of a factor: echoes and readies at 3, witnesses at 5.
     pub fn of_factor(factor: u8) -> Kinds
         ensures { result ≡ known_to factor }
@@ -56,20 +71,14 @@ impl Kinds {
                 init: true,
                 echo: true,
                 ready: true,
-                witness: false,
+                ..Kinds::NONE
             },
             5 => Kinds {
                 init: true,
-                echo: false,
-                ready: false,
                 witness: true,
+                ..Kinds::NONE
             },
-            _ => Kinds {
-                init: false,
-                echo: false,
-                ready: false,
-                witness: false,
-            },
+            _ => Kinds::NONE,
         }
     }
 

@@ -7,7 +7,8 @@ use crate::frame::{Body, Frame};
 use crate::kinds::{Kind, Kinds};
 use desks::ITEM_SIZE;
 
-// Reads a frame that a peer sent to a group of that many desks, which publish at most that many numbers.
+// Reads a frame that a peer sent to a group of that many desks, which publish at most that many numbers: no more of a group
+// decides whether bytes are a frame.
 pub fn read<'a>(
     bytes: &'a [u8],
     desks: u8,
@@ -19,33 +20,29 @@ pub fn read<'a>(
     ensures same { ReadsItsBytes bytes.now desks numbers kinds peer result }
     ensures all { ReadsWhatFits bytes.now desks numbers kinds peer result }
 {
-    let [kind, origin, number, content @ ..] = bytes else {
+    let &[kind, origin, number, ref content @ ..] = bytes else {
         return Err(FrameFault::Length(bytes.len()));
     };
-    if content.len() != desks as usize + ITEM_SIZE {
+    if content.len() != usize::from(desks) + ITEM_SIZE {
         return Err(FrameFault::Length(bytes.len()));
     }
-    let Some(kind) = Kind::of(*kind) else {
-        return Err(FrameFault::Kind);
-    };
+    let kind = Kind::try_from(kind)?;
     if !kinds.has(kind) {
         return Err(FrameFault::Kind);
     }
-    if *origin >= desks {
+    if origin >= desks {
         return Err(FrameFault::Origin);
     }
-    if *number < 1 || *number > numbers {
+    if !(1..=numbers).contains(&number) {
         return Err(FrameFault::Number);
     }
-    if matches!(kind, Kind::Init) && *origin != peer {
+    if kind == Kind::Init && origin != peer {
         return Err(FrameFault::Stranger);
     }
-    Ok(Frame::new(
-        kind,
-        Body {
-            origin: *origin,
-            number: *number,
-            content,
-        },
-    ))
+    let body = Body {
+        origin,
+        number,
+        content,
+    };
+    Ok(Frame::new(kind, body))
 }

@@ -1,9 +1,8 @@
 use crate::faults::FrameFault;
-use crate::frame::Frame;
+use crate::frame::{Body, Frame};
 use crate::kinds::Kinds;
 use crate::reader::read;
 use crate::writer::write;
-use std::test::Fail;
 
 // Two desks, with one number each and a factor of 3, hear from desk 1.
 fn heard<'a>(bytes: &'a [u8]) -> Result<Frame<'a>, FrameFault> {
@@ -11,10 +10,7 @@ fn heard<'a>(bytes: &'a [u8]) -> Result<Frame<'a>, FrameFault> {
 }
 
 fn fault_of(bytes: &[u8]) -> Option<FrameFault> {
-    match heard(bytes) {
-        Ok(_) => None,
-        Err(fault) => Some(fault),
-    }
+    heard(bytes).err()
 }
 
 // Each of these has what the refusals behind it name too.
@@ -50,22 +46,22 @@ fn number_and_peer(rt: HostRuntime) {
 
 // A frame read, written and read again; an output that is a byte short is left as it was.
 #[test]
-fn written_and_read_again(rt: HostRuntime) -> Result<(), Fail> {
+fn written_and_read_again(rt: HostRuntime) {
     let bytes = [2, 0, 1, 3, 4, 5, 6, 7, 8, 9, 10, 11, 12];
     let mut short = [99; 12];
     let mut out = [99; 14];
+    let body = Body {
+        origin: 0,
+        number: 1,
+        content: &bytes[3..],
+    };
     let Ok(frame) = heard(&bytes) else {
         assert!(rt; false);
-        return Ok(());
+        return;
     };
-    assert!(rt; matches!(write(frame, &mut short), Err(FrameFault::Output(13))));
-    assert!(rt; short == [99; 12]);
-    assert!(rt; matches!(write(frame, &mut out), Ok(13)));
+    assert_eq!(rt; write(frame, &mut short), Err(FrameFault::Output(13)));
+    assert_eq!(rt; short, [99; 12]);
+    assert_eq!(rt; write(frame, &mut out), Ok(13));
     assert_eq!(rt; out[13], 99);
-    let Ok(Frame::Echo(again)) = heard(&out[..13]) else {
-        assert!(rt; false);
-        return Ok(());
-    };
-    assert!(rt; again.origin == 0 && again.number == 1 && again.content == &bytes[3..]);
-    Ok(())
+    assert_eq!(rt; heard(&out[..13]), Ok(Frame::Echo(body)));
 }

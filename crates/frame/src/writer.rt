@@ -12,14 +12,14 @@ pub fn write(frame: Frame<'_>, out: &mut [u8]) -> Result<usize, FrameFault>
     ensures output { out.new ≡ written frame.entry out.old }
     ensures back { ReadsBack frame.entry result out.new }
 {
+    let head = [u8::from(frame.kind()), frame.origin(), frame.number()];
     let content = frame.content();
-    let needed = 3 + content.len();
+    let needed = head.len() + content.len();
     if out.len() < needed {
         return Err(FrameFault::Output(needed));
     }
-    out[0] = frame.kind().code();
-    out[1] = frame.origin();
-    out[2] = frame.number();
-    out[3..needed].copy_from_slice(content);
+    let (front, rest) = out.split_at_mut(head.len());
+    front.copy_from_slice(&head);
+    rest[..content.len()].copy_from_slice(content);
     Ok(needed)
 }

@@ -9,7 +9,6 @@ use Rattle.ledger.specs.Figures.{figure_at, count_at, memory_of, known, reaches,
 pub record Made (n w : ℕ) (m : MutBor (List ℕ)) (l : Ledger) : Type 0 where
   pub desks : l.desks ≡ n
   pub width : l.width ≡ w
-  pub cut : l.cells.width ≡ 8
   pub zero : memory_of l ≡ replicate (length m.now) 0
   pub memory : l.cells.bytes.ghost_name ≡ m.ghost_name
   pub counts : (d : ℕ) → count_at l d ≡ 0
@@ -20,7 +19,6 @@ pub record Made (n w : ℕ) (m : MutBor (List ℕ)) (l : Ledger) : Type 0 where
 pub record Shape (l l' : Ledger) : Type 0 where
   pub desks : l'.desks ≡ l.desks
   pub width : l'.width ≡ l.width
-  pub cut : l'.cells.width ≡ l.cells.width
   pub size : length (memory_of l') ≡ length (memory_of l)
   pub memory : l'.cells.bytes.ghost_name ≡ l.cells.bytes.ghost_name
   -- no byte behind the figures is written

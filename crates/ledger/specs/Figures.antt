@@ -42,7 +42,7 @@ memory_of l = l.cells.bytes.now
 
 -- a figure is known, and the memory holds it
 abbrev pub reaches : Ledger → ℕ → ℕ → Bool
-reaches l d i = known l d i && (there l.cells (d * l.width + i) && 8 == l.cells.width)
+reaches l d i = known l d i && there l.cells (d * l.width + i)
 
 -- the memory holds every figure, and there is a count for every desk
 abbrev pub Whole : Ledger → Type 0

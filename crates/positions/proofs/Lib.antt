@@ -1,2 +1,1 @@
 pub mod NetLimit
-mod Enter

@@ -7,12 +7,14 @@ ghost use Rattle.positions.specs.Netted.{NetLimitParts};
 ghost use Rattle.positions.specs.Positions.{positions, position_limit};
 ghost use Rattle.positions.specs.Sample.{Sample};
 
-mod calls;
-mod table;
+use copies::Copies;
+
 mod trade;
 
-pub use table::Positions;
 pub use trade::{Side, Trade};
+
+// Each desk's positions: figure i is the filled net of instrument i, figure 64 + i its hedged net.
+pub type Positions<'a> = Copies<'a, Trade>;
 
 // No figure lies beyond it. For any number of desks the rules keep the laws of a book, and a sample meets what these ask;
 // with a limit on the group's net they would not.

@@ -1,40 +1,53 @@
-use crate::table::Positions;
-use crate::trade::Trade;
-use book::{Book, BookFault, Hedged, form};
+use crate::{Positions, Trade};
+use book::{Book, BookFault, Hedged, Item, Opening, form};
 use desks::ITEM_SIZE;
 use std::process::Abort;
 use std::test::Fail;
 
-fn item(kind: u8, instrument: u8, lots: i32, zeros: [u8; 2]) -> [u8; ITEM_SIZE] {
+fn bytes(kind: u8, instrument: u8, lots: i32, zeros: [u8; 2]) -> [u8; ITEM_SIZE] {
     let [a, b, c, d] = lots.to_be_bytes();
     let [e, f] = zeros;
     [kind, instrument, a, b, c, d, e, f]
+}
+
+fn item(origin: u8, kind: u8, instrument: u8, lots: i32) -> Item {
+    Item {
+        origin,
+        bytes: bytes(kind, instrument, lots, [0, 0]),
+    }
+}
+
+fn opening(figure: u16, amount: i32) -> Opening {
+    Opening { figure, amount }
 }
 
 // Each field at its edges, and the offset of the first wrong one.
 #[test]
 fn reads_each_field_to_its_edges(rt: HostRuntime) {
     let cases = [
-        (item(0, 0, 1, [0, 0]), Some(0)),
-        (item(1, 0, 1, [0, 0]), None),
-        (item(2, 0, 1, [0, 0]), None),
-        (item(3, 0, 1, [0, 0]), Some(0)),
-        (item(1, 63, 1, [0, 0]), None),
-        (item(1, 64, 1, [0, 0]), Some(1)),
-        (item(1, 0, 0, [0, 0]), Some(2)),
-        (item(1, 0, -1, [0, 0]), None),
-        (item(1, 0, 10_000, [0, 0]), None),
-        (item(1, 0, 10_001, [0, 0]), Some(2)),
-        (item(1, 0, -10_000, [0, 0]), None),
-        (item(1, 0, -10_001, [0, 0]), Some(2)),
-        (item(1, 0, 1, [1, 0]), Some(6)),
-        (item(1, 0, 1, [0, 1]), Some(6)),
-        (item(3, 64, 0, [1, 1]), Some(0)),
-        (item(1, 64, 0, [1, 1]), Some(1)),
-        (item(1, 0, 0, [1, 1]), Some(2)),
+        (bytes(0, 0, 1, [0, 0]), Some(0)),
+        (bytes(1, 0, 1, [0, 0]), None),
+        (bytes(2, 0, 1, [0, 0]), None),
+        (bytes(3, 0, 1, [0, 0]), Some(0)),
+        (bytes(1, 63, 1, [0, 0]), None),
+        (bytes(1, 64, 1, [0, 0]), Some(1)),
+        (bytes(1, 0, 0, [0, 0]), Some(2)),
+        (bytes(1, 0, -1, [0, 0]), None),
+        (bytes(1, 0, 10_000, [0, 0]), None),
+        (bytes(1, 0, 10_001, [0, 0]), Some(2)),
+        (bytes(1, 0, -10_000, [0, 0]), None),
+        (bytes(1, 0, -10_001, [0, 0]), Some(2)),
+        (bytes(1, 0, 1, [1, 0]), Some(6)),
+        (bytes(1, 0, 1, [0, 1]), Some(6)),
+        (bytes(3, 64, 0, [1, 1]), Some(0)),
+        (bytes(1, 64, 0, [1, 1]), Some(1)),
+        (bytes(1, 0, 0, [1, 1]), Some(2)),
     ];
     for (item, wrong) in cases {
-        assert_eq!(rt; Trade::read(item).err(), wrong);
+        assert_eq!(rt;
+            Trade::try_from(item).err().map(|fault| fault.offset),
+            wrong
+        );
     }
 }
 
@@ -53,7 +66,7 @@ fn open_to_the_edges<'a, B: Book<'a> + Drop>(
         (63, -10_001, Err(BookFault::Amount)),
     ];
     for (figure, amount, reply) in cases {
-        assert_eq!(rt; book.open(figure, amount), reply);
+        assert_eq!(rt; book.open(opening(figure, amount)), reply);
     }
     for desk in 0..2 {
         assert_eq!(rt; book.figure(desk, 0)?, 10_000);
@@ -74,15 +87,12 @@ fn enter_at_one_desk<'a, B: Hedged<'a> + Drop>(
     memory: &'a mut [u8],
 ) -> Result<(), Fail> {
     let mut book = form::<B>(2, memory)?;
-    book.open(7, 500)?;
-    book.enter(0, 1, item(1, 7, -200, [0, 0]))?;
-    book.enter(0, 1, item(2, 7, 50, [0, 0]))?;
+    book.open(opening(7, 500))?;
+    book.enter(0, item(1, 1, 7, -200))?;
+    book.enter(0, item(1, 2, 7, 50))?;
+    assert_eq!(rt; book.enter(0, item(2, 1, 7, 1)), Err(BookFault::Desk(2)));
     assert_eq!(rt;
-        book.enter(0, 2, item(1, 7, 1, [0, 0])),
-        Err(BookFault::Desk(2))
-    );
-    assert_eq!(rt;
-        book.enter(1, 0, item(1, 7, 0, [0, 0])),
+        book.enter(1, item(0, 1, 7, 0)),
         Err(BookFault::Malformed(2))
     );
     let cases = [(0, 300, 50, 2, -350), (1, 500, 0, 0, -500)];

@@ -1,6 +1,7 @@
 -- The wire of all identities is no longer than the wires of each together.
-use Rattle.std.proofs.Common.{◌≡◌, ℕ, zero, suc, ◌+◌, ◌-◌, ◌*◌, ◌<◌, ◌≤◌, Bool, true, false, cond, List, [], ◌∷◌, length, sym, refl, ap, ⊎_elim, mul_assoc, suc-mul, arith}
+use Rattle.std.proofs.Common.{◌≡◌, ℕ, zero, suc, ◌+◌, ◌-◌, ◌*◌, ◌<◌, ◌≤◌, Bool, true, false, cond, List, [], ◌∷◌, map, length, sym, refl, ap, ⊎_elim, mul_assoc, suc-mul, arith}
 use Rattle.std.proofs.lemmas.Bool.{and_from, eq-eqb, cases_eq}
+use Rattle.std.specs.List.{filter}
 use Rattle.desks.specs.Sets.{one}
 use Rattle.quorum.specs.Machine.{Protocol}
 use Rattle.quorum.specs.Network.{Named, of, wire_of, LawfulEverywhere, Identified, BoundedEverywhere}
@@ -33,7 +34,7 @@ module _ {K C : Type 0} (n numbers : ℕ) where
 
   longer : (x : Named K C) (w : List (Named K C)) (o m : ℕ) → length (wire_of o m (x ∷ w)) ≡ one (of o m x) + length (wire_of o m w)
   longer x w o m = by (of o m x) where
-    by : (b : Bool) → length (cond b (x.frame ∷ wire_of o m w) (wire_of o m w)) ≡ one b + length (wire_of o m w)
+    by : (b : Bool) → length (map (λ y. y.frame) (cond b (x ∷ filter (of o m) w) (filter (of o m) w))) ≡ one b + length (wire_of o m w)
     by true = omega arith
     by false = omega arith
 
@@ -53,7 +54,9 @@ module _ {K C : Type 0} (n numbers : ℕ) where
 
   cover : (w : List (Named K C)) → Identified n numbers w → length w ≤ together w
   cover [] h = omega arith
-  cover (x ∷ w) h = omega (arith, step x w, counted x h.0.0 h.0.1 h.0.2, cover w h.1)
+  cover (x ∷ w) h =
+      let here = h 0 x (omega arith) in
+      omega (arith, step x w, counted x here.0 here.1 here.2, cover w (λ k d l. h (suc k) d (omega (arith, l))))
 
 pub bounded : {D K C : Type 0} (P : Protocol D K C) (m : ℕ) → LawfulEverywhere P m → BoundedEverywhere P m
 bounded P m lawful H valid enough s a numbers h =

@@ -1,17 +1,18 @@
 -- Every step keeps Sound.
 use Rattle.std.proofs.Common.{◌≡◌, ℕ, ◌+◌, ◌*◌, ◌<◌, ◌≤◌, Bool, true, false, cond, not, ◌&&◌, eqb, List, [], ◌∷◌, ◌++◌, length, set, Some, None, Option, sym, refl, ap, ◌∙◌, subst, inl, inr, ⊎_elim, arith, length-append, length-set}
-use Rattle.std.specs.List.{AllByRecursion}
+use Rattle.std.specs.Option.{is_some}
+use Rattle.std.specs.List.{All, list_any}
 use Rattle.std.proofs.lemmas.Bool.{ltb-true, lt-ltb, eqb-true, eq-eqb, ne_eqb, or_cases, or_left, or_right, and_parts, and_from, cases_Bool, cases_eq, cond-true, cond-false}
-use Rattle.std.proofs.ByRecursion.{All-append, All-set, All-weaker, All-get_or}
+use Rattle.std.proofs.lemmas.List.Elements.{All-append, All-get_or, All-nil, All-push, All-set, All-weaker}
 use Rattle.desks.specs.Sets.{one, how_many}
-use Rattle.quorum.specs.Frames.{Setting, Valid, Correct, some, is, other, settle, Frame, new, mark, fresh, on}
+use Rattle.quorum.specs.Frames.{Setting, Valid, Correct, is_same, is_other, settle, Frame, new, mark, fresh}
 use Rattle.quorum.specs.DoubleEcho.{Kind, init, echo, ready, eqk, Desk, State, votes, heavy, final, recorded, answered, clash, receive, sends, double_echo}
 use Rattle.quorum.specs.Machine.{start, offering, received, Step, offer, take, feign, Reached, at_start, then_step}
 use Rattle.quorum.specs.EchoInvariant.{says, by, Heard, Told, Backed, TrueVotes, Settled, Sound}
 use Rattle.quorum.proofs.Counting.{cnt_mono, cnt_point, cnt_never}
-use Rattle.quorum.proofs.Basics.{settle_one, clash_of, some_inj, some_yes, some_not_none, some_value, settle_kept, settle_some, settle_fires, settle_cases, is_some, some_is, cases_same, on_append, on_set, fresh_on, fresh_length, fresh_all}
+use Rattle.quorum.proofs.Basics.{settle_one, clash_of, some_inj, some_yes, some_not_none, some_value, settle_kept, settle_some, settle_fires, settle_cases, some_from_same, same_from_some, cases_same, on_append, on_set, fresh_on, fresh_length, fresh_all}
 use Rattle.quorum.proofs.Among.{among_mono}
-use Rattle.quorum.proofs.EchoKinds.{eqk_true}
+use Rattle.quorum.proofs.EchoKinds.{eqk_true, eqk_refl}
 use Rattle.quorum.proofs.EchoOne.{agreement, heavy_backs, final_backs, accepted_backs, backed_echoed}
 
 -- what a faulty desk says is free; what another says, it sent
@@ -30,10 +31,10 @@ module _ {C : Type 0} (S : Setting C) (F : Valid S) where
   -- Votes and one vote more.
   module _ (v : ℕ → Option C) (b : ℕ → Bool) (c : C) where
     votes_more : (x : C) → votes S v x ≤ votes S (λ q. settle (v q) (b q) c) x
-    votes_more x = cnt_mono (λ q. is S (v q) x) (λ q. is S (settle (v q) (b q) c) x) S.n (λ q l e. some_is S F _ x (settle_kept (v q) (b q) c x (is_some S F (v q) x e)))
+    votes_more x = cnt_mono (λ q. is_same S (v q) x) (λ q. is_same S (settle (v q) (b q) c) x) S.n (λ q l e. same_from_some S F _ x (settle_kept (v q) (b q) c x (some_from_same S F (v q) x e)))
 
     votes_other : (x : C) → (x ≡ c → ⊥) → votes S (λ q. settle (v q) (b q) c) x ≤ votes S v x
-    votes_other x ne = cnt_mono (λ q. is S (settle (v q) (b q) c) x) (λ q. is S (v q) x) S.n (λ q l e. ⊎_elim (λ a. some_is S F (v q) x a) (λ a. absurd (ne a.1)) (settle_cases (v q) (b q) c x (is_some S F _ x e)))
+    votes_other x ne = cnt_mono (λ q. is_same S (settle (v q) (b q) c) x) (λ q. is_same S (v q) x) S.n (λ q l e. ⊎_elim (λ a. same_from_some S F (v q) x a) (λ a. absurd (ne a.1)) (settle_cases (v q) (b q) c x (some_from_same S F _ x e)))
 
   -- A desk that was settled is settled once it answered.
   module _ (D : Desk C) (p : ℕ) (k : Kind) (c : C) (was : Settled S D) where
@@ -43,24 +44,25 @@ module _ {C : Type 0} (S : Setting C) (F : Valid S) where
     abbrev D2 : Desk C
     D2 = answered S D1 k c
 
+    -- what the votes of x ask for is done: now, if x is c, and before else
+    asked : (o : Option C) (b : Bool) (x : C) → (x ≡ c → b ≡ true) → ((x ≡ c → ⊥) → is_some o ≡ true) → is_some (settle o b c) ≡ true
+    asked o b x now before = ⊎_elim (λ e. settle_fires o b c (now e)) (λ ne. settle_some o b c (before ne)) (cases_same S F x c)
+
     now_settled : Settled S D2
     now_settled = record {
       by_votes = λ x e. ⊎_elim
           (λ a. omega (arith, was.by_votes x a, votes_more D.readies (λ q. eqb q p && eqk k ready) c x))
           (λ a. rw a.1 (ltb-true _ _ a.0))
           (settle_cases D.accepted (final S D1 c) c x e);
-      echoed = λ x h. ⊎_elim
-          (λ e. settle_fires D.ready_sent (heavy S D1 c) c (or_left _ _ (lt-ltb _ _ (rw e at h))))
-          (λ ne. settle_some D.ready_sent _ c (was.echoed x (omega (arith, h, votes_other D.echoes (λ q. eqb q p && eqk k echo) c x ne))))
-          (cases_same S F x c);
-      joined = λ x h. ⊎_elim
-          (λ e. settle_fires D.ready_sent (heavy S D1 c) c (or_right _ _ (lt-ltb _ _ (rw e at h))))
-          (λ ne. settle_some D.ready_sent _ c (was.joined x (omega (arith, h, votes_other D.readies (λ q. eqb q p && eqk k ready) c x ne))))
-          (cases_same S F x c);
-      done = λ x h. ⊎_elim
-          (λ e. settle_fires D.accepted (final S D1 c) c (lt-ltb _ _ (rw e at h)))
-          (λ ne. settle_some D.accepted _ c (was.done x (omega (arith, h, votes_other D.readies (λ q. eqb q p && eqk k ready) c x ne))))
-          (cases_same S F x c);
+      echoed = λ x h. asked D.ready_sent (heavy S D1 c) x
+          (λ e. or_left _ _ (lt-ltb _ _ (rw e at h)))
+          (λ ne. was.echoed x (omega (arith, h, votes_other D.echoes (λ q. eqb q p && eqk k echo) c x ne)));
+      joined = λ x h. asked D.ready_sent (heavy S D1 c) x
+          (λ e. or_right _ _ (lt-ltb _ _ (rw e at h)))
+          (λ ne. was.joined x (omega (arith, h, votes_other D.readies (λ q. eqb q p && eqk k ready) c x ne)));
+      done = λ x h. asked D.accepted (final S D1 c) x
+          (λ e. lt-ltb _ _ (rw e at h))
+          (λ ne. was.done x (omega (arith, h, votes_other D.readies (λ q. eqb q p && eqk k ready) c x ne)));
     }
 
     now_grown : Grown D D2
@@ -73,38 +75,33 @@ module _ {C : Type 0} (S : Setting C) (F : Valid S) where
 
   -- The votes with the new one are true, and so nothing clashes.
   module _ (s : State C) (sound : Sound S s) (d : ℕ) (gd : Correct S d) (p : ℕ) (k : Kind) (c : C) (genuine : Genuine S s p k c) where
-    now_true : TrueVotes S s (recorded (s.desk d) p k c)
-    now_true = record { echoes = e; readies = r }
-      where
-        e : (q : ℕ) (x : C) → Correct S q → (recorded (s.desk d) p k c).echoes q ≡ Some x → (s.desk q).echo_sent ≡ Some x
-        e q x g h = ⊎_elim
-            (λ a. (sound.true_votes d gd).echoes q x g a)
-            (λ a. let b = and_parts _ _ a.0 in
-            let qp : q ≡ p = eqb-true _ _ b.0 in
-            let ke : k ≡ echo = eqk_true _ _ b.1 in
-            let said : says S s p k ≡ Some c = genuine.said (subst (Correct S) qp g) in
-            let said2 : says S s p echo ≡ Some c = subst (λ y. says S s p y ≡ Some c) ke said in
-            let said3 : (s.desk q).echo_sent ≡ Some c = subst (λ y. (s.desk y).echo_sent ≡ Some c) (sym qp) said2 in
-            said3 ∙ ap Some (sym a.1))
-            (settle_cases ((s.desk d).echoes q) (eqb q p && eqk k echo) c x h)
+    -- The votes v of one kind l that d recorded, each of which its peer sent, and the new one.
+    module _ (l : Kind) (v : ℕ → Option C) (sent : (q : ℕ) (x : C) → Correct S q → v q ≡ Some x → says S s q l ≡ Some x) where
+      vote_sent : (q : ℕ) (x : C) → Correct S q → settle (v q) (eqb q p && eqk k l) c ≡ Some x → says S s q l ≡ Some x
+      vote_sent q x g h = ⊎_elim
+          (λ a. sent q x g a)
+          (λ a. let b = and_parts _ _ a.0 in
+          let qp : q ≡ p = eqb-true _ _ b.0 in
+          let kl : k ≡ l = eqk_true _ _ b.1 in
+          let said : says S s p k ≡ Some c = genuine.said (subst (Correct S) qp g) in
+          rw (qp, ← kl, a.1) said)
+          (settle_cases (v q) (eqb q p && eqk k l) c x h)
 
-        r : (q : ℕ) (x : C) → Correct S q → (recorded (s.desk d) p k c).readies q ≡ Some x → (s.desk q).ready_sent ≡ Some x
-        r q x g h = ⊎_elim
-            (λ a. (sound.true_votes d gd).readies q x g a)
-            (λ a. let b = and_parts _ _ a.0 in
-            let qp : q ≡ p = eqb-true _ _ b.0 in
-            let ke : k ≡ ready = eqk_true _ _ b.1 in
-            let said : says S s p k ≡ Some c = genuine.said (subst (Correct S) qp g) in
-            let said2 : says S s p ready ≡ Some c = subst (λ y. says S s p y ≡ Some c) ke said in
-            let said3 : (s.desk q).ready_sent ≡ Some c = subst (λ y. (s.desk y).ready_sent ≡ Some c) (sym qp) said2 in
-            said3 ∙ ap Some (sym a.1))
-            (settle_cases ((s.desk d).readies q) (eqb q p && eqk k ready) c x h)
+      vote_there : Correct S p → k ≡ l → settle (v p) (eqb p p && eqk k l) c ≡ Some c
+      vote_there g e =
+          let said : says S s p l ≡ Some c = rw e at (genuine.said g) in
+          settle_one (v p) _ c (and_from _ _ (eq-eqb p p refl) (rw e (eqk_refl l))) (λ x h. some_inj x c (sym (sent p x g h) ∙ said))
+
+    now_true : TrueVotes S s (recorded (s.desk d) p k c)
+    now_true =
+        let was = sound.true_votes d gd in
+        record { echoes = vote_sent echo (s.desk d).echoes was.echoes; readies = vote_sent ready (s.desk d).readies was.readies }
 
     -- so the call never only marks
     pub no_clash : clash S (recorded (s.desk d) p k c) c ≡ false
     no_clash = ⊎_elim (λ t. at (s.desk d).accepted refl (and_parts _ _ t).0 (and_parts (final S (recorded (s.desk d) p k c) c) _ t).1) (λ f. f) (cases_Bool _)
       where
-        at : (o : Option C) → (s.desk d).accepted ≡ o → final S (recorded (s.desk d) p k c) c ≡ true → other S o c ≡ true → clash S (recorded (s.desk d) p k c) c ≡ false
+        at : (o : Option C) → (s.desk d).accepted ≡ o → final S (recorded (s.desk d) p k c) c ≡ true → is_other S o c ≡ true → clash S (recorded (s.desk d) p k c) c ≡ false
         at (Some a) e fin oth =
             let ac : a ≡ c = agreement S F s a c (accepted_backs S F s sound d a gd e) (final_backs S F s sound (recorded (s.desk d) p k c) now_true c fin) in
             let y : S.same a c ≡ true = rw ac (F.same_refl c) in
@@ -134,7 +131,7 @@ module _ {C : Type 0} (S : Setting C) (F : Valid S) where
       heard_grown e q ready x h = (grown e).readies q x h
 
       backed_grown : (x : C) → Backed S s x → Backed S s' x
-      backed_grown x h = omega (arith, among_mono S (λ q. is S (s'.desk q).echo_sent x) (λ q. is S (s.desk q).echo_sent x) (λ q g e. some_is S F _ x ((grown q).echo_sent x (is_some S F _ x e))))
+      backed_grown x h = omega (arith, among_mono S (λ q. is_same S (s'.desk q).echo_sent x) (λ q. is_same S (s.desk q).echo_sent x) (λ q g e. same_from_some S F _ x ((grown q).echo_sent x (some_from_same S F _ x e))))
 
       true_grown : (D : Desk C) → TrueVotes S s D → TrueVotes S s' D
       true_grown D v = record { echoes = λ q x g e. (grown q).echo_sent x (v.echoes q x g e); readies = λ q x g e. (grown q).ready_sent x (v.readies q x g e) }
@@ -180,17 +177,9 @@ module _ {C : Type 0} (S : Setting C) (F : Valid S) where
       d_heard gp = at k refl
         where
           at : (l : Kind) → k ≡ l → Heard s' d p l c
-          at init e =
-              let ki : eqk k init ≡ true = rw e refl in
-              rw at_d (settle_fires (s.desk d).echo_sent _ c (or_left _ _ ki))
-          at echo e =
-              let said : (s.desk p).echo_sent ≡ Some c = subst (λ y. says S s p y ≡ Some c) e (genuine.said gp) in
-              let kk : eqk k echo ≡ true = rw e refl in
-              rw at_d (settle_one ((s.desk d).echoes p) _ c (and_from _ _ (eq-eqb p p refl) kk) (λ x h. some_inj x c (sym ((sound.true_votes d gd).echoes p x gp h) ∙ said)))
-          at ready e =
-              let said : (s.desk p).ready_sent ≡ Some c = subst (λ y. says S s p y ≡ Some c) e (genuine.said gp) in
-              let kk : eqk k ready ≡ true = rw e refl in
-              rw at_d (settle_one ((s.desk d).readies p) _ c (and_from _ _ (eq-eqb p p refl) kk) (λ x h. some_inj x c (sym ((sound.true_votes d gd).readies p x gp h) ∙ said)))
+          at init e = let ki : eqk k init ≡ true = rw e refl in rw at_d (settle_fires (s.desk d).echo_sent _ c (or_left _ _ ki))
+          at echo e = rw at_d (vote_there echo (s.desk d).echoes (sound.true_votes d gd).echoes gp e)
+          at ready e = rw at_d (vote_there ready (s.desk d).readies (sound.true_votes d gd).readies gp e)
 
       told_marked : (f : Frame Kind C) → f.sender ≡ p → f.kind ≡ k → f.content ≡ c → Told S s f → Told S s' (mark d f)
       told_marked f ps ks cs h = record {
@@ -206,9 +195,9 @@ module _ {C : Type 0} (S : Setting C) (F : Valid S) where
       told_fresh l x e = record { sent_by = gd; said = e; heard = λ q g y. clash_of false y refl }
 
       -- The wire: w is the wire before, perhaps with a mark.
-      module _ (w : List (Frame Kind C)) (told : AllByRecursion (Told S s') w) (still_on : (q : ℕ) (l : Kind) → on (by q l) s.wire ≡ true → on (by q l) w ≡ true) (as_long : length w ≡ length s.wire) (wire_is : s'.wire ≡ w ++ sends d (s.desk d) (s'.desk d)) where
-        frames' : AllByRecursion (Told S s') s'.wire
-        frames' = subst (AllByRecursion (Told S s')) (sym wire_is) (All-append (Told S s') w (sends d (s.desk d) (s'.desk d)) told (All-append (Told S s') echoed readied
+      module _ (w : List (Frame Kind C)) (told : All (Told S s') w) (still_on : (q : ℕ) (l : Kind) → list_any (by q l) s.wire ≡ true → list_any (by q l) w ≡ true) (as_long : length w ≡ length s.wire) (wire_is : s'.wire ≡ w ++ sends d (s.desk d) (s'.desk d)) where
+        frames' : All (Told S s') s'.wire
+        frames' = subst (All (Told S s')) (sym wire_is) (All-append (Told S s') w (sends d (s.desk d) (s'.desk d)) told (All-append (Told S s') echoed readied
             (fresh_all (Told S s') d echo (s.desk d).echo_sent (s'.desk d).echo_sent (λ x e. told_fresh echo x e))
             (fresh_all (Told S s') d ready (s.desk d).ready_sent (s'.desk d).ready_sent (λ x e. told_fresh ready x e))))
           where
@@ -218,26 +207,31 @@ module _ {C : Type 0} (S : Setting C) (F : Valid S) where
             readied : List (Frame Kind C)
             readied = fresh d ready (s.desk d).ready_sent (s'.desk d).ready_sent
 
-        on_old : (q : ℕ) (l : Kind) → Correct S q → some (says S s q l) ≡ true → on (by q l) s'.wire ≡ true
+        on_old : (q : ℕ) (l : Kind) → Correct S q → is_some (says S s q l) ≡ true → list_any (by q l) s'.wire ≡ true
         on_old q l g h = rw wire_is (on_append (by q l) w _ (inl (still_on q l (sound.posted q l g h))))
 
-        posted' : (q : ℕ) (l : Kind) → Correct S q → some (says S s' q l) ≡ true → on (by q l) s'.wire ≡ true
-        posted' q init g h = on_old q init g (rw same_offer at h)
-        posted' q echo g h = ⊎_elim
-            (λ (e : q ≡ d). ⊎_elim (λ a. on_old q echo g (rw e a)) (λ a. rw wire_is (on_append (by q echo) w _ (inr (on_append (by q echo) _ _ (inl (subst (λ y. on (by y echo) (fresh d echo (s.desk d).echo_sent (s'.desk d).echo_sent) ≡ true) (sym e) a)))))) (fresh_on (by d echo) d echo (s.desk d).echo_sent (s'.desk d).echo_sent (λ x. and_from _ _ (eq-eqb d d refl) refl) (subst (λ y. some (s'.desk y).echo_sent ≡ true) e h)))
-            (λ ne. on_old q echo g (subst (λ y. some y.echo_sent ≡ true) (at_others q ne) h))
-            (cases_eq q d)
-        posted' q ready g h = ⊎_elim
-            (λ (e : q ≡ d). ⊎_elim (λ a. on_old q ready g (rw e a)) (λ a. rw wire_is (on_append (by q ready) w _ (inr (on_append (by q ready) (fresh d echo (s.desk d).echo_sent (s'.desk d).echo_sent) _ (inr (subst (λ y. on (by y ready) (fresh d ready (s.desk d).ready_sent (s'.desk d).ready_sent) ≡ true) (sym e) a)))))) (fresh_on (by d ready) d ready (s.desk d).ready_sent (s'.desk d).ready_sent (λ x. and_from _ _ (eq-eqb d d refl) refl) (subst (λ y. some (s'.desk y).ready_sent ≡ true) e h)))
-            (λ ne. on_old q ready g (subst (λ y. some y.ready_sent ≡ true) (at_others q ne) h))
+        -- a kind l of which only d can have sent a frame, on the wire behind w if it did
+        posted_by_d : (l : Kind) → ((q : ℕ) → (q ≡ d → ⊥) → says S s' q l ≡ says S s q l) → (list_any (by d l) (fresh d l (says S s d l) (says S s' d l)) ≡ true → list_any (by d l) (sends d (s.desk d) (s'.desk d)) ≡ true) →
+            (q : ℕ) → Correct S q → is_some (says S s' q l) ≡ true → list_any (by q l) s'.wire ≡ true
+        posted_by_d l others sent q g h = ⊎_elim
+            (λ (e : q ≡ d). ⊎_elim
+            (λ a. on_old q l g (rw e a))
+            (λ a. rw (wire_is, e) (on_append (by d l) w _ (inr (sent a))))
+            (fresh_on (by d l) d l (says S s d l) (says S s' d l) (λ x. and_from _ _ (eq-eqb d d refl) (eqk_refl l)) (rw e at h)))
+            (λ ne. on_old q l g (ap is_some (sym (others q ne)) ∙ h))
             (cases_eq q d)
 
-        sized' : length s'.wire ≤ how_many (λ q. some (s'.desk q).echo_sent) S.n + how_many (λ q. some (s'.desk q).ready_sent) S.n + one (some s'.offered)
+        posted' : (q : ℕ) (l : Kind) → Correct S q → is_some (says S s' q l) ≡ true → list_any (by q l) s'.wire ≡ true
+        posted' q init g h = on_old q init g (rw same_offer at h)
+        posted' q echo g h = posted_by_d echo (λ y ne. ap (λ D. D.echo_sent) (at_others y ne)) (λ a. on_append (by d echo) _ _ (inl a)) q g h
+        posted' q ready g h = posted_by_d ready (λ y ne. ap (λ D. D.ready_sent) (at_others y ne)) (λ a. on_append (by d ready) _ _ (inr a)) q g h
+
+        sized' : length s'.wire ≤ how_many (λ q. is_some (s'.desk q).echo_sent) S.n + how_many (λ q. is_some (s'.desk q).ready_sent) S.n + one (is_some s'.offered)
         sized' = rw (wire_is, same_offer) (simp (length-append, as_long) (omega (
           arith,
           sound.sized,
-          cnt_point (λ q. some (s.desk q).echo_sent) (λ q. some (s'.desk q).echo_sent) d S.n gd.known (λ q l ne e. rw (at_others q ne) e),
-          cnt_point (λ q. some (s.desk q).ready_sent) (λ q. some (s'.desk q).ready_sent) d S.n gd.known (λ q l ne e. rw (at_others q ne) e),
+          cnt_point (λ q. is_some (s.desk q).echo_sent) (λ q. is_some (s'.desk q).echo_sent) d S.n gd.known (λ q l ne e. rw (at_others q ne) e),
+          cnt_point (λ q. is_some (s.desk q).ready_sent) (λ q. is_some (s'.desk q).ready_sent) d S.n gd.known (λ q l ne e. rw (at_others q ne) e),
           fresh_length d echo (s.desk d).echo_sent (s'.desk d).echo_sent (λ e. let v = some_value _ e in some_yes _ v.0 ((grown d).echo_sent v.0 v.1)),
           fresh_length d ready (s.desk d).ready_sent (s'.desk d).ready_sent (λ e. let v = some_value _ e in some_yes _ v.0 ((grown d).ready_sent v.0 v.1)),
         )))
@@ -256,8 +250,8 @@ module _ {C : Type 0} (S : Setting C) (F : Valid S) where
   module _ (enough : 3 * S.t < S.n) where
     -- d receives, from the wire or not
     receive_keeps : (s : State C) → Sound S s → (w : List (Frame Kind C)) (d p : ℕ) (k : Kind) (c : C) → Correct S d → Genuine S s p k c →
-        ((s' : State C) → ((f : Frame Kind C) → Told S s f → Told S s' f) → ((f : Frame Kind C) → f.sender ≡ p → f.kind ≡ k → f.content ≡ c → Told S s f → Told S s' (mark d f)) → AllByRecursion (Told S s') w) →
-        ((q : ℕ) (l : Kind) → on (by q l) s.wire ≡ true → on (by q l) w ≡ true) → length w ≡ length s.wire → Sound S (received double_echo S s w d p k c)
+        ((s' : State C) → ((f : Frame Kind C) → Told S s f → Told S s' f) → ((f : Frame Kind C) → f.sender ≡ p → f.kind ≡ k → f.content ≡ c → Told S s f → Told S s' (mark d f)) → All (Told S s') w) →
+        ((q : ℕ) (l : Kind) → list_any (by q l) s.wire ≡ true → list_any (by q l) w ≡ true) → length w ≡ length s.wire → Sound S (received double_echo S s w d p k c)
     receive_keeps s sound w d p k c gd genuine told still_on as_long =
         received_sound s sound d gd p k c genuine enough s' at_d at_others refl w
         (told s' (told_grown s sound d gd p k c genuine enough s' at_d at_others refl) (told_marked s sound d gd p k c genuine enough s' at_d at_others refl))
@@ -284,9 +278,9 @@ module _ {C : Type 0} (S : Setting C) (F : Valid S) where
       true_votes = λ d g. record { echoes = (sound.true_votes d g).echoes; readies = (sound.true_votes d g).readies };
       backed = sound.backed;
       from_origin = λ d x g o e. some_not_none x (sym none ∙ sound.from_origin d x g o e);
-      frames = All-append _ _ _ (All-weaker _ _ (λ f h. record { sent_by = h.sent_by; said = says' _ _ _ h.said; heard = λ d g y. heard' d _ _ _ (h.heard d g y) }) s.wire sound.frames) (record { sent_by = go; said = rw (eq-eqb S.origin S.origin refl) refl; heard = λ d g y. clash_of false y refl }, tt);
+      frames = All-push (Told S s') s.wire (new S.origin init c) (All-weaker (Told S s) (Told S s') (λ f h. record { sent_by = h.sent_by; said = says' _ _ _ h.said; heard = λ d g y. heard' d _ _ _ (h.heard d g y) }) s.wire sound.frames) (record { sent_by = go; said = rw (eq-eqb S.origin S.origin refl) refl; heard = λ d g y. clash_of false y refl });
       posted = posted';
-      sized = simp length-append (omega (arith, sound.sized, ap (λ o. one (some o)) none));
+      sized = simp length-append (omega (arith, sound.sized, ap (λ o. one (is_some o)) none));
     }
       where
         s' : State C
@@ -306,10 +300,10 @@ module _ {C : Type 0} (S : Setting C) (F : Valid S) where
         heard' d q echo x h = h
         heard' d q ready x h = h
 
-        posted' : (q : ℕ) (l : Kind) → Correct S q → some (says S s' q l) ≡ true → on (by q l) s'.wire ≡ true
+        posted' : (q : ℕ) (l : Kind) → Correct S q → is_some (says S s' q l) ≡ true → list_any (by q l) s'.wire ≡ true
         posted' q init g h = on_append (by q init) s.wire _ (inr (at (eqb q S.origin) refl h))
           where
-            at : (b : Bool) → eqb q S.origin ≡ b → some (cond b (Some c) None) ≡ true → on (by q init) (new S.origin init c ∷ []) ≡ true
+            at : (b : Bool) → eqb q S.origin ≡ b → is_some (cond b (Some c) None) ≡ true → list_any (by q init) (new S.origin init c ∷ []) ≡ true
             at true e y = or_left _ _ (and_from _ _ (eq-eqb S.origin q (sym (eqb-true _ _ e))) refl)
             at false e y = clash_of false y refl
         posted' q echo g h = on_append (by q echo) s.wire _ (inl (sound.posted q echo g h))
@@ -320,7 +314,7 @@ module _ {C : Type 0} (S : Setting C) (F : Valid S) where
     step_keeps s s' sound (take d i f gd l e) =
         receive_keeps s sound (set s.wire i (mark d f)) d f.sender f.kind f.content gd
         (record { by_origin = at_origin f.sender f.kind f.content told.said; said = λ g. told.said })
-        (λ t grown marked. All-set _ s.wire i (mark d f) (marked f refl refl refl told) (All-weaker _ _ grown s.wire sound.frames))
+        (λ t grown marked. All-set (Told S t) s.wire i (mark d f) (marked f refl refl refl told) (All-weaker (Told S s) (Told S t) grown s.wire sound.frames))
         (λ q k o. on_set (by q k) s.wire i f (mark d f) l e refl o)
         (length-set _ _ _)
       where
@@ -336,7 +330,7 @@ module _ {C : Type 0} (S : Setting C) (F : Valid S) where
     step_keeps s s' sound (feign d p k c gd l bad o) =
         receive_keeps s sound s.wire d p k c gd
         (record { by_origin = o; said = λ g. clash_of _ bad g.honest })
-        (λ t grown marked. All-weaker _ _ grown s.wire sound.frames)
+        (λ t grown marked. All-weaker (Told S s) (Told S t) grown s.wire sound.frames)
         (λ q k o. o) refl
 
     no_votes : (x : C) → votes S (λ q. None) x ≡ 0
@@ -353,15 +347,15 @@ module _ {C : Type 0} (S : Setting C) (F : Valid S) where
       true_votes = λ d g. record { echoes = λ q x gq e. e; readies = λ q x gq e. e };
       backed = λ d x g e. some_not_none x e;
       from_origin = λ d x g o e. e;
-      frames = tt;
+      frames = All-nil _;
       posted = λ q k g h. nothing q k h;
       sized = omega arith;
     }
       where
-        nothing : (q : ℕ) (k : Kind) → some (says S (start double_echo) q k) ≡ true → on {K = Kind} {C = C} (by q k) [] ≡ true
+        nothing : (q : ℕ) (k : Kind) → is_some (says S (start double_echo) q k) ≡ true → list_any (by {C = C} q k) [] ≡ true
         nothing q init h = at (eqb q S.origin) h
           where
-            at : (b : Bool) → some (cond {A = Option C} b None None) ≡ true → false ≡ true
+            at : (b : Bool) → is_some (cond {A = Option C} b None None) ≡ true → false ≡ true
             at true y = y
             at false y = y
         nothing q echo h = h

@@ -5,14 +5,9 @@ use Rattle.quorum.proofs.Basics.{clash_of}
 
 pub eqk_true : (k l : Kind) → eqk k l ≡ true → k ≡ l
 eqk_true init init e = refl
-eqk_true init echo e = clash_of false e refl
-eqk_true init ready e = clash_of false e refl
-eqk_true echo init e = clash_of false e refl
 eqk_true echo echo e = refl
-eqk_true echo ready e = clash_of false e refl
-eqk_true ready init e = clash_of false e refl
-eqk_true ready echo e = clash_of false e refl
 eqk_true ready ready e = refl
+eqk_true _ _ e = clash_of false e refl
 
 pub eqk_refl : (k : Kind) → eqk k k ≡ true
 eqk_refl init = refl

@@ -1,28 +1,28 @@
 -- What the votes of a desk say, and that no two contents are backed.
 use Rattle.std.proofs.Common.{◌≡◌, ℕ, ◌+◌, ◌*◌, ◌<◌, ◌≤◌, true, Some, Option, sym, ◌∙◌, ⊎_elim, arith}
 use Rattle.std.proofs.lemmas.Bool.{ltb-true, or_cases}
-use Rattle.quorum.specs.Frames.{Setting, Valid, Correct, is, among, faults}
+use Rattle.quorum.specs.Frames.{Setting, Valid, Correct, is_same, among, faults}
 use Rattle.quorum.specs.DoubleEcho.{Desk, State, votes, heavy, final}
 use Rattle.quorum.specs.EchoInvariant.{Backed, TrueVotes, Sound}
 use Rattle.quorum.proofs.Among.{among_bound, among_all, among_apart, among_some}
-use Rattle.quorum.proofs.Basics.{some_inj, is_some, some_is, cases_same}
+use Rattle.quorum.proofs.Basics.{some_inj, some_from_same, same_from_some, cases_same}
 
 module _ {C : Type 0} (S : Setting C) (F : Valid S) where
   -- votes that are true are of desks that sent them, or of faulty ones
-  pub votes_bound : (v sent : ℕ → Option C) (x : C) → ((q : ℕ) → Correct S q → v q ≡ Some x → sent q ≡ Some x) → votes S v x ≤ among S (λ q. is S (sent q) x) + faults S
-  votes_bound v sent x h = among_bound S (λ q. is S (v q) x) (λ q. is S (sent q) x) (λ q g e. some_is S F _ x (h q g (is_some S F _ x e)))
+  pub votes_bound : (v sent : ℕ → Option C) (x : C) → ((q : ℕ) → Correct S q → v q ≡ Some x → sent q ≡ Some x) → votes S v x ≤ among S (λ q. is_same S (sent q) x) + faults S
+  votes_bound v sent x h = among_bound S (λ q. is_same S (v q) x) (λ q. is_same S (sent q) x) (λ q g e. same_from_some S F _ x (h q g (some_from_same S F _ x e)))
 
   -- and the votes of all who sent are there, if they were heard
-  pub votes_all : (v sent : ℕ → Option C) (x : C) → ((q : ℕ) → Correct S q → sent q ≡ Some x → v q ≡ Some x) → among S (λ q. is S (sent q) x) ≤ votes S v x
-  votes_all v sent x h = among_all S (λ q. is S (v q) x) (λ q. is S (sent q) x) (λ q g e. some_is S F _ x (h q g (is_some S F _ x e)))
+  pub votes_all : (v sent : ℕ → Option C) (x : C) → ((q : ℕ) → Correct S q → sent q ≡ Some x → v q ≡ Some x) → among S (λ q. is_same S (sent q) x) ≤ votes S v x
+  votes_all v sent x h = among_all S (λ q. is_same S (v q) x) (λ q. is_same S (sent q) x) (λ q g e. same_from_some S F _ x (h q g (some_from_same S F _ x e)))
 
   -- two different contents have different holders
-  pub holders_apart : (sent : ℕ → Option C) (x y : C) → (x ≡ y → ⊥) → among S (λ q. is S (sent q) x) + among S (λ q. is S (sent q) y) + faults S ≤ S.n
-  holders_apart sent x y ne = among_apart S (λ q. is S (sent q) x) (λ q. is S (sent q) y) (λ q g a b. ne (some_inj x y (sym (is_some S F _ x a) ∙ is_some S F _ y b)))
+  pub holders_apart : (sent : ℕ → Option C) (x y : C) → (x ≡ y → ⊥) → among S (λ q. is_same S (sent q) x) + among S (λ q. is_same S (sent q) y) + faults S ≤ S.n
+  holders_apart sent x y ne = among_apart S (λ q. is_same S (sent q) x) (λ q. is_same S (sent q) y) (λ q g a b. ne (some_inj x y (sym (some_from_same S F _ x a) ∙ some_from_same S F _ y b)))
 
   -- some desk holds what more than none hold
-  pub holder : (sent : ℕ → Option C) (x : C) → 0 < among S (λ q. is S (sent q) x) → (q : ℕ) × Correct S q × (sent q ≡ Some x)
-  holder sent x h = let r = among_some S (λ q. is S (sent q) x) h in (r.0, r.1, is_some S F _ x r.2)
+  pub holder : (sent : ℕ → Option C) (x : C) → 0 < among S (λ q. is_same S (sent q) x) → (q : ℕ) × Correct S q × (sent q ≡ Some x)
+  holder sent x h = let r = among_some S (λ q. is_same S (sent q) x) h in (r.0, r.1, some_from_same S F _ x r.2)
 
   pub agreement : (s : State C) (x y : C) → Backed S s x → Backed S s y → x ≡ y
   agreement s x y a b = ⊎_elim (λ e. e) (λ ne. let z : ⊥ = omega (arith, F.few, holders_apart (λ q. (s.desk q).echo_sent) x y ne) in absurd z) (cases_same S F x y)

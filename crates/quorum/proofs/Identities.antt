@@ -59,10 +59,10 @@ module _ {D K C : Type 0} where
         (subst (Q o) (sym (own_offer P H s o m c)) (keeps o _ _ (offer c g none) (h o m)))
         (λ p l e. subst (Q p) (sym (other_offer P H s o m p l c e (identity_sym o m p l e))) (h p l))
     action_keeps s s' (Network.take d i x g b e) h = by_identity (λ p l. Q p (view s' p l)) x.origin x.number
-        (subst (Q x.origin) (sym (own_receive P H s _ (set (wire_of x.origin x.number s.wire) (rank T s.wire i) (mark d x.frame)) x.origin x.number d _ _ _ (rank_set T (λ y. y.frame) s.wire i x _ b e yes' yes')))
+        (subst (Q x.origin) (sym (own_receive P H s _ (set (wire_of x.origin x.number s.wire) (rank T s.wire i) (mark d x.frame)) x.origin x.number d _ _ _ (rank_set T (λ y. y.frame) s.wire i x b e _ yes' yes')))
         (keeps x.origin _ _ (take d (rank T s.wire i) x.frame g (rank_below T (λ y. y.frame) s.wire i x b e yes') (rank_get T (λ y. y.frame) s.wire i x b e yes')) (h x.origin x.number)))
         (λ p l f. let f' = identity_sym x.origin x.number p l f in
-        subst (Q p) (sym (other_receive P H s _ x.origin x.number p l d _ _ _ f f' (part_other (of p l) (λ y. y.frame) s.wire i x _ b e f' f'))) (h p l))
+        subst (Q p) (sym (other_receive P H s _ x.origin x.number p l d _ _ _ f f' (part_other (of p l) (λ y. y.frame) s.wire i x b e _ f' f'))) (h p l))
       where
         T : Named K C → Bool
         T = of x.origin x.number

@@ -1,7 +1,7 @@
 -- The double echo broadcast of one identity. Assumes nothing.
 use Rattle.std.specs.Prelude.{ℕ, ◌+◌, ◌*◌, Bool, true, false, cond, ◌&&◌, ◌||◌, List, ◌++◌, None, Option, ◌==◌, nat_lt}
 use Rattle.desks.specs.Sets.{how_many}
-use Rattle.quorum.specs.Frames.{Setting, is, other, settle, Frame, fresh}
+use Rattle.quorum.specs.Frames.{Setting, is_same, is_other, settle, Frame, fresh}
 use Rattle.quorum.specs.Machine
 use Rattle.quorum.specs.Machine.{Protocol, Lawful}
 
@@ -12,14 +12,9 @@ pub data Kind : Type 0 where
 
 abbrev pub eqk : Kind → Kind → Bool
 eqk init init = true
-eqk init echo = false
-eqk init ready = false
-eqk echo init = false
 eqk echo echo = true
-eqk echo ready = false
-eqk ready init = false
-eqk ready echo = false
 eqk ready ready = true
+eqk _ _ = false
 
 -- What a desk holds of the identity: the votes that it recorded of each peer, what it sent, what it accepted.
 pub record Desk (C : Type 0) : Type 0 where
@@ -34,7 +29,7 @@ blank = record { echoes = λ q. None; readies = λ q. None; echo_sent = None; re
 
 -- how many peers voted c
 abbrev pub votes : {C : Type 0} → Setting C → (ℕ → Option C) → C → ℕ
-votes S v c = how_many (λ q. is S (v q) c) S.n
+votes S v c = how_many (λ q. is_same S (v q) c) S.n
 
 -- c has enough votes at the desk for a READY; and enough for the desk to accept it
 abbrev pub heavy : {C : Type 0} → Setting C → Desk C → C → Bool
@@ -65,7 +60,7 @@ answered S D k c = record {
 
 -- The whole. Where c would be accepted and something else was, nothing is done (the laws show that this never happens).
 abbrev pub clash : {C : Type 0} → Setting C → Desk C → C → Bool
-clash S D c = final S D c && other S D.accepted c
+clash S D c = final S D c && is_other S D.accepted c
 
 abbrev pub receive : {C : Type 0} → Setting C → Desk C → ℕ → Kind → C → Desk C
 receive S D p k c = cond (clash S (recorded D p k c) c) D (answered S (recorded D p k c) k c)

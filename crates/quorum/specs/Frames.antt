@@ -1,6 +1,7 @@
 -- What the two broadcasts share: who is faulty, the frames of one identity on the wire, and options. Assumes nothing.
-use Rattle.std.specs.Prelude.{◌≡◌, ℕ, zero, suc, ◌<◌, ◌≤◌, Bool, true, false, cond, not, ◌&&◌, ◌||◌, List, [], ◌∷◌, Some, None, Option, ◌==◌}
-use Rattle.std.specs.List.{AllByRecursion}
+use Rattle.std.specs.Prelude.{◌≡◌, ℕ, ◌<◌, ◌≤◌, Bool, true, false, cond, not, ◌&&◌, ◌||◌, List, [], ◌∷◌, Some, None, Option, ◌==◌}
+use Rattle.std.specs.List.{All}
+use Rattle.std.specs.Option.{option_map_or}
 use Rattle.desks.specs.Sets.{how_many}
 
 -- The desks are 0 .. n - 1. `origin` is the desk of the identity, and `same` tells contents apart.
@@ -29,20 +30,12 @@ among S h = how_many (λ q. not (S.faulty q) && h q) S.n
 abbrev pub faults : {C : Type 0} → Setting C → ℕ
 faults S = how_many S.faulty S.n
 
--- there is something
-abbrev pub some : {A : Type 0} → Option A → Bool
-some (Some x) = true
-some None = false
+-- it is c; it is something other than c
+abbrev pub is_same : {C : Type 0} → Setting C → Option C → C → Bool
+is_same S o c = option_map_or (λ x. S.same x c) o false
 
--- it is c
-abbrev pub is : {C : Type 0} → Setting C → Option C → C → Bool
-is S (Some x) c = S.same x c
-is S None c = false
-
--- it is something other than c
-abbrev pub other : {C : Type 0} → Setting C → Option C → C → Bool
-other S (Some x) c = not (S.same x c)
-other S None c = false
+abbrev pub is_other : {C : Type 0} → Setting C → Option C → C → Bool
+is_other S o c = option_map_or (λ x. not (S.same x c)) o false
 
 -- what was there stays; where nothing was, c comes if b
 abbrev pub settle : {C : Type 0} → Option C → Bool → C → Option C
@@ -75,17 +68,6 @@ fresh d k (Some x) o' = []
 fresh d k None (Some c) = new d k c ∷ []
 fresh d k None None = []
 
--- a frame that passes the test stands on the wire
-abbrev pub on : {K C : Type 0} → (Frame K C → Bool) → List (Frame K C) → Bool
-on T [] = false
-on T (f ∷ w) = T f || on T w
-
 -- every frame was taken by every desk that is not faulty
 abbrev pub AllTaken : {K C : Type 0} → Setting C → List (Frame K C) → Type 0
-AllTaken S w = AllByRecursion (λ f. (d : ℕ) → Correct S d → f.taken d ≡ true) w
-
--- the frame at a place of the wire
-abbrev pub frame_at : {K C : Type 0} → List (Frame K C) → ℕ → Option (Frame K C)
-frame_at [] i = None
-frame_at (f ∷ w) zero = Some f
-frame_at (f ∷ w) (suc i) = frame_at w i
+AllTaken S w = All (λ f. (d : ℕ) → Correct S d → f.taken d ≡ true) w

@@ -1,6 +1,6 @@
 -- The broadcasts of all identities at once, over one wire. Assumes nothing.
 use Rattle.std.specs.Prelude.{◌≡◌, ℕ, ◌+◌, ◌*◌, ◌<◌, ◌≤◌, Bool, true, cond, ◌&&◌, List, [], ◌∷◌, ◌++◌, map, length, Some, None, Option, ◌==◌, slice_index_or, slice_set}
-use Rattle.std.specs.List.{AllByRecursion}
+use Rattle.std.specs.List.{All}
 use Rattle.quorum.specs.Frames.{Setting, Valid, Correct, put, Frame, new, mark}
 use Rattle.quorum.specs.Machine.{Protocol, State, Laws}
 use Rattle.quorum.specs.Parts.{part}
@@ -81,7 +81,7 @@ LawfulEverywhere {D} {K} {C} P m = (H : Common C) → Valid (setting H 0) → m 
 
 -- every frame has an identity of n desks and so many numbers, from 1 on
 abbrev pub Identified : {K C : Type 0} → ℕ → ℕ → List (Named K C) → Type 0
-Identified n numbers w = AllByRecursion (λ x. (x.origin < n) × (1 ≤ x.number) × (x.number ≤ numbers)) w
+Identified n numbers w = All (λ x. (x.origin < n) × (1 ≤ x.number) × (x.number ≤ numbers)) w
 
 -- then the wire of all identities does not grow past
 abbrev pub BoundedEverywhere : {D K C : Type 0} → Protocol D K C → ℕ → Type 0

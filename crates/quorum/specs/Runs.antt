@@ -1,6 +1,6 @@
 -- A broadcast as a function of moves, and a sample run of the double echo. Assumes nothing.
-use Rattle.std.specs.Prelude.{◌≡◌, ℕ, Bool, true, false, cond, not, ◌&&◌, ◌||◌, List, [], ◌∷◌, ◌++◌, length, Some, None, Option, ◌==◌, nat_eq, nat_lt, slice_set}
-use Rattle.quorum.specs.Frames.{Setting, some, Frame, mark, frame_at}
+use Rattle.std.specs.Prelude.{◌≡◌, ℕ, Bool, true, false, cond, not, ◌&&◌, ◌||◌, List, [], ◌∷◌, ◌++◌, length, Some, None, Option, ◌==◌, nat_eq, nat_lt, slice_set, is_some, slice_get}
+use Rattle.quorum.specs.Frames.{Setting, Frame, mark}
 use Rattle.quorum.specs.Machine.{Protocol, State, start, offering, received, Reached}
 use Rattle.quorum.specs.DoubleEcho.{Kind, init, echo, ready, Desk, double_echo}
 
@@ -18,8 +18,8 @@ took P S s d i None = s
 
 -- The state after a move; a move that may not be made changes nothing. `firstly` tells the first kind.
 abbrev pub moved : {D K C : Type 0} → Protocol D K C → (K → Bool) → Setting C → State D K C → Move K C → State D K C
-moved P firstly S s (offers c) = cond (good S S.origin && not (some s.offered)) (offering P S s c) s
-moved P firstly S s (takes d i) = cond (good S d) (took P S s d i (frame_at s.wire i)) s
+moved P firstly S s (offers c) = cond (good S S.origin && not (is_some s.offered)) (offering P S s c) s
+moved P firstly S s (takes d i) = cond (good S d) (took P S s d i (slice_get s.wire i)) s
 moved P firstly S s (feigns d p k c) = cond (good S d && ((nat_lt p S.n && S.faulty p) && (not (firstly k) || p == S.origin))) (received P S s s.wire d p k c) s
 
 abbrev pub run : {D K C : Type 0} → Protocol D K C → (K → Bool) → Setting C → State D K C → List (Move K C) → State D K C
@@ -39,8 +39,7 @@ each_takes i = takes 0 i ∷ takes 1 i ∷ takes 2 i ∷ []
 
 abbrev pub firstly : Kind → Bool
 firstly init = true
-firstly echo = false
-firstly ready = false
+firstly _ = false
 
 abbrev pub sample : List (Move Kind ℕ)
 sample = offers 7 ∷ feigns 1 3 echo 9 ∷ feigns 2 3 ready 9 ∷ each_takes 0 ++ (each_takes 1 ++ (each_takes 2 ++ (each_takes 3 ++ (each_takes 4 ++ (each_takes 5 ++ each_takes 6)))))

@@ -12,7 +12,7 @@ use Rattle.reader.specs.declared.faults.ScriptFault.{ScriptFault}
 use Rattle.reader.specs.declared.faults.ScriptFault.TheVariants as fault
 use Rattle.reader.specs.Kinds.{kind_of, allows}
 
--- two bytes, high byte first, and their value at a place
+-- two bytes, high byte first, and their value at a place: without the library's `to_be_bytes`, which cuts off what does not fit
 abbrev pub two_bytes : ℕ → List ℕ
 two_bytes n = n / 256 ∷ n % 256 ∷ []
 

@@ -5,7 +5,7 @@ use Rattle.reader.specs.declared.command.Stage.{Stage}
 use Rattle.reader.specs.declared.command.Kind.{Kind}
 use Rattle.reader.specs.declared.command.Kind.TheVariants as kind
 use Rattle.reader.specs.declared.command.Forming.{Forming}
-use Rattle.reader.specs.declared.command.Opening as opening
+use Rattle.book.specs.declared.item.Opening as opening
 use Rattle.reader.specs.declared.command.Command.{Command}
 use Rattle.reader.specs.declared.command.Command.TheVariants.{Form, Opening, Open, Quiet, Close}
 use Rattle.reader.specs.declared.faults.ScriptFault.{ScriptFault}

@@ -3,3 +3,4 @@ pub mod Kinds
 pub mod Commands
 pub mod Readings
 pub mod Laws
+pub mod Taking

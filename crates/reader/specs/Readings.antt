@@ -1,7 +1,7 @@
 -- What the parts of the reader give. Assumes nothing.
-use Rattle.std.specs.Prelude.{◌≡◌, ℕ, ◌+◌, ◌<◌, ◌≤◌, Bool, cond, List, length, Some, None, Option, slice_index}
+use Rattle.std.specs.Prelude.{◌≡◌, ℕ, ◌+◌, ◌<◌, ◌≤◌, List, length, Some, None, Option, slice_index}
 
--- each is below 256
+-- each is a byte
 abbrev pub Bytes : List ℕ → Type 0
 Bytes s = (i : ℕ) → slice_index s i < 256
 
@@ -9,7 +9,3 @@ Bytes s = (i : ℕ) → slice_index s i < 256
 abbrev pub Taken : {A : Type 0} → List ℕ → ℕ → ℕ → A → Option A → ℕ → Type 0
 Taken s p size value (Some x) after = (p + size ≤ length s) × (x ≡ value) × (after ≡ p + size)
 Taken s p size value None after = length s < p + size
-
--- where a guard leaves the position
-abbrev pub restored : Bool → ℕ → ℕ → ℕ
-restored whole start here = cond whole here start

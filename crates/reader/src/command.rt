@@ -1,10 +1,12 @@
 ghost use Rattle.std.specs.Prelude.{◌≡◌};
+ghost use Rattle.std.specs.Result.{result_ok};
 ghost use Rattle.reader.specs.Kinds.{kind_of, allows};
 
+use book::Opening;
 use desks::GroupParameters;
 
 // How far a script has come.
-#[derive(Clone, Copy)]
+#[derive(Clone, Copy, Debug, PartialEq, Eq)]
 pub enum Stage {
     Unformed,
     Set,
@@ -13,20 +15,14 @@ pub enum Stage {
 }
 
 // What a form command asks for: a group, and the number of a book.
-#[derive(Clone, Copy)]
+// The number stays a byte: a command and its bytes determine each other, and the floor is what refuses a number of no book.
+#[derive(Clone, Copy, Debug, PartialEq, Eq)]
 pub struct Forming {
     pub parameters: GroupParameters,
     pub book: u8,
 }
 
-// The amount that a figure opens with.
-#[derive(Clone, Copy)]
-pub struct Opening {
-    pub figure: u16,
-    pub amount: i32,
-}
-
-#[derive(Clone, Copy)]
+#[derive(Clone, Copy, Debug, PartialEq, Eq)]
 pub enum Command {
     Form(Forming),
     Opening(Opening),
@@ -36,7 +32,7 @@ pub enum Command {
 }
 
 // What a command's letter says of it.
-#[derive(Clone, Copy)]
+#[derive(Clone, Copy, Debug, PartialEq, Eq)]
 pub enum Kind {
     Form,
     Opening,
@@ -45,18 +41,23 @@ pub enum Kind {
     Close,
 }
 
-impl Kind {
-    // The kind of that letter.
-    pub fn of(letter: u8) -> Option<Kind>
-        ensures { result ≡ kind_of letter }
-    {
+// No command has this letter.
+#[derive(Clone, Copy, Debug, PartialEq, Eq)]
+pub struct UnknownLetter;
+
+impl TryFrom<u8> for Kind {
+    type Error = UnknownLetter;
+
+    ghost try_from_gives = { λ letter r. result_ok r ≡ kind_of letter };
+
+    fn try_from(letter: u8) -> Result<Kind, UnknownLetter> {
         match letter {
-            b'F' => Some(Kind::Form),
-            b'O' => Some(Kind::Opening),
-            b'G' => Some(Kind::Open),
-            b'Q' => Some(Kind::Quiet),
-            b'Z' => Some(Kind::Close),
-            _ => None,
+            b'F' => Ok(Kind::Form),
+            b'O' => Ok(Kind::Opening),
+            b'G' => Ok(Kind::Open),
+            b'Q' => Ok(Kind::Quiet),
+            b'Z' => Ok(Kind::Close),
+            _ => Err(UnknownLetter),
         }
     }
 }
@@ -67,10 +68,10 @@ impl Stage {
         ensures { result ≡ allows self kind }
     {
         match kind {
-            Kind::Form => matches!(self, Stage::Unformed),
-            Kind::Opening | Kind::Open => matches!(self, Stage::Set),
-            Kind::Quiet => matches!(self, Stage::Open | Stage::Closed),
-            Kind::Close => matches!(self, Stage::Open),
+            Kind::Form => self == Stage::Unformed,
+            Kind::Opening | Kind::Open => self == Stage::Set,
+            Kind::Quiet => self == Stage::Open || self == Stage::Closed,
+            Kind::Close => self == Stage::Open,
         }
     }
 }

@@ -26,29 +26,21 @@ impl From<FloorFault> for ScriptFault {
     }
 }
 
-impl ScriptFault {
-    // What it says.
-    pub fn refusal(self) -> Refusal
-        ensures { result ≡ script_refusal self }
-    {
-        let layer = Layer::Script;
-        match self {
-            ScriptFault::Unknown(offset) => Refusal {
-                number: 12,
-                layer,
-                place: offset,
-            },
-            ScriptFault::Stage(offset) => Refusal {
-                number: 13,
-                layer,
-                place: offset,
-            },
-            ScriptFault::Short(offset) => Refusal {
-                number: 14,
-                layer,
-                place: offset,
-            },
-            ScriptFault::Floor(fault) => fault.refusal(),
+// What it says.
+impl From<ScriptFault> for Refusal {
+    ghost from_gives = { λ f r. r ≡ script_refusal f };
+
+    fn from(f: ScriptFault) -> Refusal {
+        let (number, place) = match f {
+            ScriptFault::Unknown(offset) => (12, offset),
+            ScriptFault::Stage(offset) => (13, offset),
+            ScriptFault::Short(offset) => (14, offset),
+            ScriptFault::Floor(fault) => return fault.into(),
+        };
+        Refusal {
+            number,
+            layer: Layer::Script,
+            place,
         }
     }
 }

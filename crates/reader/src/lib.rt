@@ -5,6 +5,6 @@ mod command;
 mod faults;
 mod reader;
 
-pub use command::{Command, Forming, Kind, Opening, Stage};
+pub use command::{Command, Forming, Kind, Stage, UnknownLetter};
 pub use faults::ScriptFault;
 pub use reader::Reader;

@@ -1,44 +1,43 @@
-ghost use Rattle.std.specs.Prelude.{◌≡◌, ℕ, ◌+◌, ◌<◌, ◌≤◌, true, false, length, is_some, slice_index};
-ghost use Rattle.std.specs.Int.{w32};
-ghost use Rattle.std.proofs.Common.{to_z};
-ghost use Rattle.reader.specs.Commands.{read, position_after, command_at, two_at, four_at, operand_bytes};
+ghost use Rattle.std.specs.Prelude.{◌≡◌, ℕ, ◌+◌, ◌<◌, ◌≤◌, true, length, take, drop, unwrap_or, Ok, None, ◌↔◌};
+ghost use Rattle.std.specs.Option.{ForSome};
+ghost use Rattle.reader.specs.Commands.{read, position_after, command_at, operand_bytes};
 ghost use Rattle.reader.specs.Laws.{ReadsWhatStands, WhatStandsIsRead, MovesInside, FaultStays};
-ghost use Rattle.reader.specs.Readings.{Bytes, Taken, restored};
+ghost use Rattle.reader.specs.Readings.{Bytes};
 
-use crate::command::{Command, Forming, Kind, Opening, Stage};
+use crate::command::{Command, Forming, Kind, Stage};
 use crate::faults::ScriptFault;
-use desks::{DeskSet, Group, GroupParameters};
+use book::Opening;
+use desks::{DeskSet, Group};
 
-// A script, and the position of the next command in it.
+// A script, which holds bytes, and the position of the next command in it, which is at most its length.
 #[derive(Drop)]
 pub struct Reader<'a> {
     script: &'a [u8],
     position: usize,
+    ghost bytes: { Bytes script.now },
+    ghost within: { position ≤ length script.now },
 }
 
-// Puts the position back to the start of a command that was not read whole.
-struct Guard<'a> {
-    position: &'a mut usize,
-    start: usize,
-    whole: bool,
+// Puts the reader back to the start of a command, unless it was told that the command was read whole: then it has no start.
+struct Guard<'r, 'a> {
+    reader: &'r mut Reader<'a>,
+    start: Option<usize>,
+    ghost inside: { ForSome start (λ p. p ≤ length reader.now.script.now) },
 }
 
-impl Drop for Guard<'_> {
+impl Drop for Guard<'_, '_> {
     fn drop(self)
-        ensures { self.exit.0.now ≡ restored self.entry.whole self.entry.start self.entry.position.now }
+        ensures position { self.exit.0.now.position ≡ unwrap_or self.entry.start self.entry.reader.now.position }
+        ensures script { self.exit.0.now.script ≡ self.entry.reader.now.script }
     {
-        if !self.whole {
-            *self.position = self.start;
-        }
-        let Guard {
-            position: _,
-            start: _,
-            whole: _,
-        } = self;
+        let Guard { reader, start } = self;
+        reader.position = start.unwrap_or(reader.position);
     }
 }
 
 impl<'a> Reader<'a> {
+    ghost use Rattle.reader.specs.Taking.{Takes};
+
     pub fn new(script: &'a [u8]) -> Reader<'a>
         ensures script { result.script ≡ script.entry }
         ensures position { result.position ≡ 0 }
@@ -63,100 +62,76 @@ impl<'a> Reader<'a> {
         ensures stands { ReadsWhatStands self.old.script.now self.old.position stage result self.new.position }
         ensures found { WhatStandsIsRead self.old.script.now self.old.position stage result }
         ensures moves { MovesInside self.old.script.now self.old.position result self.new.position }
+        ensures end { (result ≡ Ok None) ↔ (length self.old.script.now ≤ self.old.position) }
         ensures fault { FaultStays self.old.position result self.new.position }
     {
-        let script = self.script;
         let start = self.position;
         let mut guard = Guard {
-            position: &mut self.position,
-            start,
-            whole: false,
+            reader: self,
+            start: Some(start),
         };
-        let Some(letter) = byte(script, &mut *guard.position) else {
+        let Some(first) = guard.reader.take::<1>() else {
             return Ok(None);
         };
-        let kind = Kind::of(letter).ok_or(ScriptFault::Unknown(start))?;
+        let kind = Kind::try_from(first[0]).map_err(|_| ScriptFault::Unknown(start))?;
         if !stage.allows(kind) {
             return Err(ScriptFault::Stage(start));
         }
-        let command = operands(kind, script, &mut *guard.position).ok_or(ScriptFault::Short(
-            start,
-        ))?;
-        guard.whole = true;
+        let command = guard
+            .reader
+            .operands(kind)
+            .ok_or(ScriptFault::Short(start))?;
+        guard.start = None;
         Ok(Some(command))
     }
-}
 
-// The byte at the position, which moves past it. Whoever reads one learns that the script holds bytes.
-fn byte(script: &[u8], position: &mut usize) -> Option<u8>
-    ensures bytes { is_some result ≡ true → Bytes script.now }
-    ensures taken { Taken script.now position.old 1 (slice_index script.now position.old) result position.new }
-{
-    let at = *position;
-    if at < script.len() {
-        *position = at + 1;
-        return Some(script[at]);
+    // The next bytes, which the position moves past; none where the script has fewer.
+    fn take<const N: usize>(&mut self) -> Option<[u8; N]>
+        ensures { Takes self.old N (take N (drop self.old.position self.old.script.now)) result self.new }
+    {
+        let rest = &self.script[self.position..];
+        let bytes = rest.first_chunk::<N>()?;
+        self.position += N;
+        Some(*bytes)
     }
-    None
-}
 
-// Two bytes, high byte first.
-fn be_u16(script: &[u8], position: &mut usize) -> Option<u16>
-    ensures { Taken script.now position.old 2 (two_at script.now position.old) result position.new }
-{
-    let high = byte(script, &mut *position)?;
-    let low = byte(script, &mut *position)?;
-    Some(u16::from_be_bytes([high, low]))
-}
+    // The operands of a form command.
+    fn forming(&mut self) -> Option<Command>
+        ensures { Takes self.old 7 (command_at self.old.script.now self.old.position Kind.Form) result self.new }
+    {
+        let [desks, faults, numbers, factor, book] = self.take::<5>()?;
+        let group = Group {
+            desks,
+            numbers,
+            faults,
+            faulty: DeskSet::new(u16::from_be_bytes(self.take()?)),
+        };
+        Some(Command::Form(Forming {
+            parameters: group.under(factor),
+            book,
+        }))
+    }
 
-// Four bytes of a signed number, high byte first.
-fn be_i32(script: &[u8], position: &mut usize) -> Option<i32>
-    ensures { Taken script.now position.old 4 (to_z w32 (four_at script.now position.old)) result position.new }
-{
-    let high = be_u16(script, &mut *position)?;
-    let low = be_u16(script, &mut *position)?;
-    Some((high as u32 * 65536 + low as u32).cast_signed())
-}
+    // The operands of an opening command.
+    fn opening(&mut self) -> Option<Command>
+        ensures { Takes self.old 6 (command_at self.old.script.now self.old.position Kind.Opening) result self.new }
+    {
+        Some(Command::Opening(Opening {
+            figure: u16::from_be_bytes(self.take()?),
+            amount: i32::from_be_bytes(self.take()?),
+        }))
+    }
 
-// The operands of a form command.
-fn forming(script: &[u8], position: &mut usize) -> Option<Command>
-    ensures { Taken script.now position.old 7 (command_at script.now position.old Kind.Form) result position.new }
-{
-    let desks = byte(script, &mut *position)?;
-    let faults = byte(script, &mut *position)?;
-    let numbers = byte(script, &mut *position)?;
-    let factor = byte(script, &mut *position)?;
-    let book = byte(script, &mut *position)?;
-    let faulty = DeskSet::new(be_u16(script, &mut *position)?);
-    let group = Group {
-        desks,
-        numbers,
-        faults,
-        faulty,
-    };
-    let parameters = GroupParameters { group, factor };
-    Some(Command::Form(Forming { parameters, book }))
-}
-
-// The operands of an opening command.
-fn opening(script: &[u8], position: &mut usize) -> Option<Command>
-    ensures { Taken script.now position.old 6 (command_at script.now position.old Kind.Opening) result position.new }
-{
-    let figure = be_u16(script, &mut *position)?;
-    let amount = be_i32(script, &mut *position)?;
-    Some(Command::Opening(Opening { figure, amount }))
-}
-
-// The command of that kind, whose operands begin at the position.
-fn operands(kind: Kind, script: &[u8], position: &mut usize) -> Option<Command>
-    requires { position.old ≤ length script.now }
-    ensures { Taken script.now position.old (operand_bytes kind) (command_at script.now position.old kind) result position.new }
-{
-    match kind {
-        Kind::Form => forming(script, position),
-        Kind::Opening => opening(script, position),
-        Kind::Open => Some(Command::Open),
-        Kind::Quiet => Some(Command::Quiet),
-        Kind::Close => Some(Command::Close),
+    // The command of that kind, whose operands begin at the position.
+    fn operands(&mut self, kind: Kind) -> Option<Command>
+        ensures { Takes self.old (operand_bytes kind) (command_at self.old.script.now self.old.position kind) result self.new }
+    {
+        match kind {
+            Kind::Form => self.forming(),
+            Kind::Opening => self.opening(),
+            Kind::Open => Some(Command::Open),
+            Kind::Quiet => Some(Command::Quiet),
+            Kind::Close => Some(Command::Close),
+        }
     }
 }

@@ -1,5 +1,2 @@
 pub mod Steps
-mod Each
-mod Forming
-mod Fresh
 mod Alike

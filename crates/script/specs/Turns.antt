@@ -7,29 +7,33 @@ use Rattle.reader.specs.declared.command.Command.{Command}
 use Rattle.reader.specs.Commands.{encode, read}
 use Rattle.account.specs.declared.lines.Line.{Line}
 use Rattle.script.specs.declared.form.Formed.{Formed}
+use Rattle.script.specs.declared.session.Session.{Session}
 use Rattle.script.specs.Days.{State, stage_of, formed, lines_from}
 
--- a command was read at position p, and nothing was printed
-pub record Found (s : List ℕ) (p : ℕ) (st : Stage) (ls : List Line) (c : Command) (p' : ℕ) (ls' : List Line) : Type 0 where
-  pub answer : Ok (Some c) ≡ read s p st
-  pub position : p' ≡ p + length (encode c)
-  pub past : p < p'
-  pub within : p' ≤ length s
-  pub lines : ls' ≡ ls
+-- what a session prints from a state on, behind what it printed
+abbrev pub whole_account : ℕ → Session → State → List Line
+whole_account memory a st = a.lines.items ++ lines_from memory a.reader.script.now a.reader.position st
+
+-- a command was read at the session's position, and nothing was printed
+pub record Found (st : Stage) (a : Session) (found : ℕ × Command) (b : Session) : Type 0 where
+  pub offset : found.0 ≡ a.reader.position
+  pub answer : Ok (Some found.1) ≡ read a.reader.script.now a.reader.position st
+  pub position : b.reader.position ≡ a.reader.position + length (encode found.1)
+  pub past : a.reader.position < b.reader.position
+  pub lines : b.lines.items ≡ a.lines.items
 
 -- or the script ends there, and what is left to print was printed
-abbrev pub Fetches : List ℕ → ℕ → Stage → List Line → Option Command → ℕ → List Line → Type 0
-Fetches s p st ls (Some c) p' ls' = Found s p st ls c p' ls'
-Fetches s p st ls None p' ls' = (memory : ℕ) (state : State) → stage_of state ≡ st → ls' ≡ ls ++ lines_from memory s p state
+abbrev pub Fetches : Stage → Session → Option (ℕ × Command) → Session → Type 0
+Fetches st a (Some found) b = Found st a found b
+Fetches st a None b = (memory : ℕ) (state : State) → stage_of state ≡ st → b.lines.items ≡ whole_account memory a state
 
 -- a floor was formed: what is left is printed from there on, and the memory is enough for its book
-pub record Forms (memory : ℕ) (s : List ℕ) (p : ℕ) (ls : List Line) (f : Formed) (p' : ℕ) (ls' : List Line) : Type 0 where
-  pub rest : ls' ++ lines_from memory s p' (formed f.parameters (Ok f.kind)) ≡ ls ++ lines_from memory s p None
-  pub within : p' ≤ length s
+pub record Forms (memory : ℕ) (a : Session) (f : Formed) (b : Session) : Type 0 where
+  pub rest : whole_account memory b (formed f.parameters (Ok f.kind)) ≡ whole_account memory a None
   pub desks : outside 2 16 f.parameters.group.desks ≡ false
   pub memory_enough : bytes_of f.kind f.parameters.group.desks ≤ memory
 
 -- or the script ended before one was
-abbrev pub FormsFirst : ℕ → List ℕ → ℕ → List Line → Option Formed → ℕ → List Line → Type 0
-FormsFirst memory s p ls (Some f) p' ls' = Forms memory s p ls f p' ls'
-FormsFirst memory s p ls None p' ls' = ls' ≡ ls ++ lines_from memory s p None
+abbrev pub FormsFirst : ℕ → Session → Option Formed → Session → Type 0
+FormsFirst memory a (Some f) b = Forms memory a f b
+FormsFirst memory a None b = b.lines.items ≡ whole_account memory a None

@@ -1,16 +1,12 @@
-ghost use Rattle.std.specs.Prelude.{◌≡◌, ◌≤◌, length, IfOk, OnOk};
+ghost use Rattle.std.specs.Prelude.{◌≡◌};
 ghost use Rattle.script.specs.Days.{lent, form_result};
-ghost use Rattle.script.specs.Turns.{FormsFirst};
 
-use crate::fetch::fetch;
-use account::Line;
 use desks::GroupParameters;
 use floor::{BookKind, check_form};
-use reader::{Command, Forming, Reader, ScriptFault, Stage};
-use std::alloc::AllocError;
+use reader::{Forming, ScriptFault};
 
 // What a form command made: a group, and the kind of its book.
-#[derive(Clone, Copy)]
+#[derive(Clone, Copy, PartialEq, Eq, Debug)]
 pub(crate) struct Formed {
     pub(crate) parameters: GroupParameters,
     pub(crate) kind: BookKind,
@@ -33,44 +29,9 @@ fn lends(parameters: GroupParameters, memory: usize) -> usize
 }
 
 // The floor's check, whose fault the script keeps.
-fn check(forming: Forming, memory: usize) -> Result<BookKind, ScriptFault>
+pub(crate) fn check(forming: Forming, memory: usize) -> Result<BookKind, ScriptFault>
     ensures { result ≡ form_result memory forming }
 {
-    let kind = check_form(
-        forming.parameters,
-        forming.book,
-        lends(forming.parameters, memory),
-    )?;
-    Ok(kind)
-}
-
-// Reads the script up to the first form command that is not refused.
-pub(crate) fn form_first(
-    reader: &mut Reader<'_>,
-    memory: usize,
-    lines: &mut Vec<Line>,
-) -> Result<Option<Formed>, AllocError>
-    requires { reader.old.position ≤ length reader.old.script.now }
-    ensures turn { IfOk result (λ o. FormsFirst memory reader.old.script.now reader.old.position lines.old.items o reader.new.position lines.new.items) }
-    ensures script { OnOk result (reader.new.script.now ≡ reader.old.script.now) }
-{
-    loop {
-        let offset = reader.position();
-        let Some(command) = fetch(reader, Stage::Unformed, lines)? else {
-            return Ok(None);
-        };
-        let Command::Form(forming) = command else {
-            continue;
-        };
-        match check(forming, memory) {
-            Ok(kind) => {
-                lines.push(Line::Formed)?;
-                return Ok(Some(Formed {
-                    parameters: forming.parameters,
-                    kind,
-                }));
-            }
-            Err(fault) => lines.push(Line::Refused(fault.refusal(), offset))?,
-        }
-    }
+    let lent = lends(forming.parameters, memory);
+    Ok(check_form(forming.parameters, forming.book, lent)?)
 }

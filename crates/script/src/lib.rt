@@ -2,11 +2,10 @@
 #![tactic(auto)]
 
 mod books;
+mod closing;
 mod day;
-mod fetch;
-mod figures;
 mod form;
-mod play;
+mod session;
 mod whole;
 
 pub use whole::{account_text, run};

@@ -1,7 +1,7 @@
 -- A wire as it is made, and what each change of a wire leaves. Assumes nothing.
 use Rattle.std.specs.Prelude.{◌≡◌, ℕ, ◌≤◌, Bool, true, false, cond, ◌&&◌, List, [], ◌∷◌, ◌++◌, length, Some, ◌==◌, nat_le, nat_lt, slice_set}
 use Rattle.std.specs.List.{slice_get}
-use Rattle.frame.specs.declared.kinds.Kind.{Kind}
+use Rattle.frame.specs.Frames.{Saying}
 use Rattle.wire.specs.declared.sent.Sent.{Sent}
 use Rattle.wire.specs.declared.wire.Wire.{Wire}
 use Rattle.std.specs.Borrow.{MutBor}
@@ -27,12 +27,12 @@ pub record Marks (w : Wire) (i d : ℕ) (r : Bool) (w' : Wire) : Type 0 where
   pub places : places w' ≡ places w
   pub unchanged : r ≡ false → w' ≡ w
 
--- the wire before and after a frame was put at its end, where r says whether there was room and the content has its size
-pub record Posts (w : Wire) (d : ℕ) (k : Kind) (o m : ℕ) (c : List ℕ) (r : Bool) (w' : Wire) : Type 0 where
-  pub answer : r ≡ (length c == w.width && (nat_le (length c) 24 && nat_lt (length (frames w)) (places w)))
-  pub frames : frames w' ≡ cond r (frames w ++ new_frame d k o m c ∷ []) (frames w)
+-- the wire before and after desk d put a frame that says y at its end, where r says whether there was room and the content has its size
+pub record Posts (w : Wire) (d : ℕ) (y : Saying) (r : Bool) (w' : Wire) : Type 0 where
+  pub answer : r ≡ (length y.content == w.width && (nat_le (length y.content) 24 && nat_lt (length (frames w)) (places w)))
+  pub frames : frames w' ≡ cond r (frames w ++ new_frame d y.kind y.origin y.number y.content ∷ []) (frames w)
   -- a content of the right size is put at the end of its list, if there is room
-  pub list : length c ≡ w.width → length c ≤ 24 → log.Pushed w.log (fresh d k o m c) r w'.log
+  pub list : length y.content ≡ w.width → length y.content ≤ 24 → log.Pushed w.log (fresh d y.kind y.origin y.number y.content) r w'.log
   pub width : w'.width ≡ w.width
   pub places : places w' ≡ places w
   pub unchanged : r ≡ false → w' ≡ w

@@ -1,16 +1,18 @@
 ghost use Rattle.std.specs.Prelude.{◌≡◌, ◌<◌, ◌≤◌, [], length, take, if◌then◌else◌, Some, None, nat_le};
 ghost use Rattle.frame.specs.declared.kinds.Kind.TheVariants.{Init};
+ghost use Rattle.frame.specs.Frames.{frame_kind, frame_origin, frame_number, frame_content};
 ghost use Rattle.std.specs.Option.{option_copied};
 ghost use Rattle.wire.specs.Posted.{posted, new_frame, fresh, TakenBy};
 
 use desks::{DeskSet, ITEM_SIZE};
-use frame::Kind;
+use frame::{Body, Frame, Kind};
 
 // The most bytes that a content has: a barrier byte for each of 16 desks, and an item.
 pub const MOST_CONTENT: usize = 16 + ITEM_SIZE;
 
-// A frame on the wire. Of the content only the bytes that the group's contents have are in use.
-#[derive(Clone, Copy)]
+// A frame on the wire. Of the content only the bytes that the group's contents have are in use: a place of the wire is
+// memory of a fixed size, lent by the caller, so each frame has room for the longest.
+#[derive(Clone, Copy, PartialEq, Eq, Debug)]
 pub struct Sent {
     sender: u8,
     kind: Kind,
@@ -22,18 +24,22 @@ pub struct Sent {
 
 impl Sent {
     // A frame that none took.
-    pub(crate) fn new(sender: u8, kind: Kind, origin: u8, number: u8, content: &[u8]) -> Sent
-        requires { length content.now ≤ 24 }
-        ensures kept { result ≡ fresh sender kind origin number content.now }
-        ensures meaning { posted (length content.now) result ≡ new_frame sender kind origin number content.now }
+    pub(crate) fn new(sender: u8, frame: Frame<'_>) -> Sent
+        requires { length (frame_content frame) ≤ 24 }
+        ensures kept { result ≡ fresh sender (frame_kind frame.entry) (frame_origin frame.entry)
+            (frame_number frame.entry) (frame_content frame.entry) }
+        ensures meaning { posted (length (frame_content frame.entry)) result
+            ≡ new_frame sender (frame_kind frame.entry) (frame_origin frame.entry)
+            (frame_number frame.entry) (frame_content frame.entry) }
     {
+        let content = frame.content();
         let mut room = [0u8; MOST_CONTENT];
         room[..content.len()].copy_from_slice(content);
         Sent {
             sender,
-            kind,
-            origin,
-            number,
+            kind: frame.kind(),
+            origin: frame.origin(),
+            number: frame.number(),
             content: room,
             taken: DeskSet::new(0),
         }
@@ -44,7 +50,14 @@ impl Sent {
         ensures kept { result ≡ fresh 0 Init 0 0 [] }
         ensures meaning { posted 0 result ≡ new_frame 0 Init 0 0 [] }
     {
-        Sent::new(0, Kind::Init, 0, 0, &[])
+        Sent::new(
+            0,
+            Frame::Init(Body {
+                origin: 0,
+                number: 0,
+                content: &[],
+            }),
+        )
     }
 
     // The frame once that desk took it too.
@@ -52,15 +65,9 @@ impl Sent {
         requires { desk < 16 }
         ensures { TakenBy desk self result }
     {
-        let content = self.content;
-        let taken = self.taken.with(desk);
         Sent {
-            sender: self.sender,
-            kind: self.kind,
-            origin: self.origin,
-            number: self.number,
-            content,
-            taken,
+            taken: self.taken.with(desk),
+            ..self
         }
     }
 
@@ -99,9 +106,6 @@ impl Sent {
     pub fn content(&self, width: u8) -> Option<&[u8]>
         ensures { option_copied result ≡ (if nat_le width 24 then Some (take width self.now.content) else None) }
     {
-        if width as usize > MOST_CONTENT {
-            return None;
-        }
-        Some(&self.content[..width as usize])
+        self.content.get(..usize::from(width))
     }
 }

@@ -11,11 +11,14 @@ use Rattle.quorum.proofs.double_echo_factor.Goals as goal
 everywhere : {C : Type 0} → LawfulEverywhere (double_echo {C = C}) 3
 everywhere = lift double_echo 3 (λ S F enough s h. laws S F enough s (reached_sound S F enough s h))
 
-pub returns : goal.returns
-returns g c = record {
-  value = refl;
-  lawful = everywhere;
-  bounded = bounded double_echo 3 everywhere;
-  reaches = runs_reach;
-  sample = record { at_0 = refl; at_1 = refl; at_2 = refl; frames = refl };
-}
+pub returns-clause-lawful : goal.returns-clause-lawful
+returns-clause-lawful g c = everywhere
+
+pub returns-clause-bounded : goal.returns-clause-bounded
+returns-clause-bounded g c = bounded double_echo 3 everywhere
+
+pub returns-clause-reaches : goal.returns-clause-reaches
+returns-clause-reaches g c = runs_reach
+
+pub returns-clause-sample : goal.returns-clause-sample
+returns-clause-sample g c = record { at_0 = refl; at_1 = refl; at_2 = refl; frames = refl }

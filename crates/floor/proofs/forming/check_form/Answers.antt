@@ -1,4 +1,4 @@
-use Rattle.std.proofs.Common.{◌≡◌, ℕ, false, cond, not, ◌&&◌, eqb, ◌++◌, Some, Err, sym, refl, ap, ◌∙◌}
+use Rattle.std.proofs.Common.{◌≡◌, ℕ, cond, [], ◌∷◌, ◌++◌, Some, Err, sym, ap, ◌∙◌}
 use Rattle.std.specs.Option.{option_map}
 use Rattle.desks.specs.declared.group.GroupParameters.{GroupParameters}
 use Rattle.desks.specs.declared.faults.FormFault.{FormFault}
@@ -7,17 +7,10 @@ use Rattle.desks.specs.declared.faults.Parameter.TheVariants.{BookCode}
 use Rattle.floor.specs.declared.faults.FloorFault.TheVariants.{Form}
 use Rattle.std.proofs.lemmas.Result.{err_from_is_err_and}
 use Rattle.desks.specs.Firsts.{first, unless}
-use Rattle.desks.specs.Forming.{ranges, bounds}
-use Rattle.desks.proofs.Passed.{unless_err, unless_ok, first_front, first_back}
+use Rattle.desks.specs.Forming.{out_of_range, ranges, bounds}
+use Rattle.desks.proofs.Passed.{none_holds, unless_err, unless_ok, first_front, first_back}
 use Rattle.floor.specs.Forming.{form_tests, form_reply, kind_of, behind_ranges, memory_test}
 use Rattle.floor.proofs.forming.check_form.Goals as goal
-use Rattle.floor.proofs.forming.check_form.Goals.{in-1, in-2}
-
-coded_1 : (b : ℕ) → b ≡ 1 → (not (eqb b 1) && not (eqb b 2)) ≡ false
-coded_1 b e = rw e refl
-
-coded_2 : (b : ℕ) → b ≡ 2 → (not (eqb b 1) && not (eqb b 2)) ≡ false
-coded_2 b e = rw e refl
 
 -- the reply where a test of the list holds
 replies : (g : GroupParameters) (code memory : ℕ) (f : FormFault) → first (form_tests g code memory) ≡ Some f → Err (Form f) ≡ form_reply g code memory
@@ -34,8 +27,7 @@ returns-in_err-check_bounds c =
     let p = err_from_is_err_and c.from_residual-in_err-check_bounds.result c.from_residual-in_err-check_bounds.ensures.1 in
     let e = unless_err (first (bounds c.args.parameters)) _ _ c.in_err-check_bounds.ensures in
     let r = (unless_ok (first (ranges c.args.parameters)) _ _ c.in_ok-check_ranges.ensures).0 in
-    let k : (not (eqb c.args.book 1) && not (eqb c.args.book 2)) ≡ false =
-    elim c.match-book.branch [ in-1 w ↦ coded_1 c.args.book w.in-1.is | in-2 w ↦ coded_2 c.args.book w.in-2.is ] in
+    let k = none_holds ((out_of_range BookCode c.args.book, Range BookCode) ∷ []) (unless_ok (first ((out_of_range BookCode c.args.book, Range BookCode) ∷ [])) _ _ c.in_ok-kind.ensures).0 0 in
     p.1 ∙ ap (λ y. Err y) p.2
     ∙ replies c.args.parameters c.args.book c.args.memory _
     (first_back (ranges c.args.parameters) (behind_ranges c.args.parameters c.args.book c.args.memory) r

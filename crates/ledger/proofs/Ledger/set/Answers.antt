@@ -1,21 +1,27 @@
 -- The eight bytes are put into the cell of the figure.
-use Rattle.std.proofs.Common.{◌≡◌, ℕ, ◌+◌, ◌*◌, length, ap, ◌∙◌, subst, w64, of_z}
-use Rattle.std.proofs.lemmas.Int.{to_z-of_z}
-use Rattle.cells.specs.Cell.{Put}
-use Rattle.cells.proofs.Known.{started}
-use Rattle.ledger.specs.Figures.{known}
-use Rattle.ledger.proofs.Eight.{digits_of, written}
-use Rattle.ledger.proofs.Places.{set_there}
+use Rattle.std.proofs.Common.{◌≡◌, Bool, true, ap, rules}
+use Rattle.std.specs.Result.{is_ok}
+use Rattle.desks.specs.Firsts.{first}
+use Rattle.desks.proofs.Passed.{unless_ok}
+use Rattle.ledger.specs.Figures.{value_of}
+use Rattle.ledger.specs.Faults.{place_tests}
+use Rattle.ledger.specs.Changes.{Set}
+use Rattle.ledger.proofs.Places.{over, placed, set_there}
 use Rattle.ledger.proofs.Ledger.set.Goals as goal
+use Rattle.ledger.proofs.Ledger.set.Goals.{After-put}
 
-pub returns-in-Some : goal.returns-in-Some
-returns-in-Some c =
+changed : (c : goal.After-put) (w : c.put.new.self.width ≡ 8) (r : Bool) → is_ok c.put.result ≡ r → Set c.args.self.now c.args.desk c.args.figure c.args.value r (over c.args.self.now c.put.new.self w)
+changed c w r e =
     let l = c.args.self.now in
     let d = c.args.desk in
     let i = c.args.figure in
-    let v = c.args.value in
     let x = c.to_be_bytes.result in
-    let s = started (known l d i) c.in-Some.place (d * l.width + i) c.in-Some.ensures in
-    let e : x ≡ digits_of (of_z w64 v) = c.to_be_bytes.ensures ∙ ap (λ z. digits_of (of_z w64 z)) (to_z-of_z w64 v c.ranges.value) in
-    let P : ℕ → Type 0 = λ n. Put l.cells n x c.put.result c.put.new.self in
-    set_there l c.put.new.self d i v x c.put.result s.0 (ap length e) (written v x c.ranges.value e) (subst P s.1 c.put.ensures)
+    let p = unless_ok (first (place_tests l d i)) _ _ c.in_ok-place.ensures in
+    let v : value_of x ≡ c.args.value = search rules in
+    set_there l c.put.new.self w d i c.args.value x r (placed l d i p.0) (search rules) v (rw (p.1, e) at c.put.ensures.change)
+
+pub returns-in_err-put-clause-change : goal.returns-in_err-put-clause-change
+returns-in_err-put-clause-change c = let w = c.in_err-put.was in changed (goal.at.returns-in_err-put-clause-change c).After-put _ _ (search rules)
+
+pub returns-clause-change : goal.returns-clause-change
+returns-clause-change c = changed (goal.at.returns-clause-change c).After-put _ true (ap is_ok c.in_ok-put.was)

@@ -1,10 +1,11 @@
-use Rattle.std.proofs.Common.{refl, rules}
-use Rattle.wire.proofs.Kept.{nothing_marked, marking}
+-- The frame that stands at the place is replaced by one that the desk took too.
+use Rattle.std.proofs.Common.{◌≡◌, Some, refl, arith}
+use Rattle.lent_log.specs.Entries.{entry_at}
+use Rattle.wire.proofs.Kept.{marking}
 use Rattle.wire.proofs.wire.Wire.mark.Goals as goal
 
-pub returns-in_default : goal.returns-in_default
-returns-in_default c = nothing_marked c.args.self.now c.args.place c.args.desk (search rules) c.in_default.ensures
-
-pub returns : goal.returns
-returns c =
-    marking c.args.self.now (record { log = c.replace.new.self; width = c.args.self.now.width }) refl c.args.place c.args.desk c.in-Some.sent c.taken_by.result c.replace.result (search rules) c.in-Some.ensures c.taken_by.ensures c.replace.ensures
+pub returns-clause-change : goal.returns-clause-change
+returns-clause-change c =
+    let w = c.args.self.now in
+    let s : entry_at w.log c.args.place ≡ Some c.in_ok-sent.sent = grind (arith, c.in_ok-sent.ensures) in
+    marking w _ c.args.place c.args.desk c.in_ok-sent.sent c.taken_by.result c.replace.result refl (omega arith) s c.taken_by.ensures c.replace.ensures.stood c.replace.ensures.change

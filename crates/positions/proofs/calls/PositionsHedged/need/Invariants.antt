@@ -1,8 +1,0 @@
-use Rattle.std.proofs.Common.{◌≡◌, ◌*◌, ◌≤◌, take, nat_abs}
-use Rattle.ledger.specs.Figures.{figures}
-use Rattle.book.specs.Rules.{total}
-use Rattle.positions.specs.Positions.{position_limit}
-use Rattle.positions.proofs.calls.PositionsHedged.need.Given as goal
-
-abbrev pub invariant-loop-figure : goal.invariant-loop-figure
-invariant-loop-figure l = (l.net ≡ total (take l.figure (figures l.self.ledger l.desk))) × (nat_abs l.net ≤ l.figure * position_limit)
