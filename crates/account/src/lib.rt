@@ -1,4 +1,4 @@
-// The lines that a script prints, and their text.
+//! The lines that a script prints, and their text.
 #![tactic(auto)]
 
 mod lines;

@@ -6,7 +6,7 @@ use desks::Refusal;
 use std::alloc::{AllocError, Global};
 use std::fmt;
 
-// What a figure holds at a desk.
+/// What a figure holds at a desk.
 #[derive(Clone, Copy, Debug, PartialEq, Eq)]
 pub struct FigureLine {
     pub desk: u8,
@@ -14,26 +14,26 @@ pub struct FigureLine {
     pub value: i64,
 }
 
-// What a desk needs.
+/// What a desk needs.
 #[derive(Clone, Copy, Debug, PartialEq, Eq)]
 pub struct NeedLine {
     pub desk: u8,
     pub need: i64,
 }
 
-// A line of a script's account.
+/// A line of a script's account.
 #[derive(Clone, Copy, Debug, PartialEq, Eq)]
 pub enum Line {
     Formed,
     Opening,
     Opened,
-    // Whether the floor is quiet.
+    /// Whether the floor is quiet.
     Quiet(bool),
-    // Whether the floor was quiet when it closed.
+    /// Whether the floor was quiet when it closed.
     Closed(bool),
     Figure(FigureLine),
     Need(NeedLine),
-    // A refusal, and the offset of the command that is refused.
+    /// A refusal, and the offset of the command that is refused.
     Refused(Refusal, usize),
 }
 
@@ -49,6 +49,7 @@ impl fmt::Display for Line {
             Line::Closed(closed) => write!(f, "Z {}", u8::from(closed)),
             Line::Figure(line) => write!(f, "= {} {} {}", line.desk, line.figure, line.value),
             Line::Need(line) => write!(f, "H {} {}", line.desk, line.need),
+            // A refusal has no text of its own: how a line spaces its fields is the account's.
             Line::Refused(refusal, offset) => {
                 write!(
                     f,
@@ -60,7 +61,7 @@ impl fmt::Display for Line {
     }
 }
 
-// Adds the text of a line, ended by a newline.
+/// Adds the text of a line, ended by a newline.
 #[tactic(auto, using(crate::proofs::Decimal::numbers_are_written))]
 pub fn write_line(out: &mut String, line: Line) -> Result<(), AllocError>
     ensures text { OnOk result (string_bytes out.new ≡ string_bytes out.old ++ text_of line) }
@@ -69,7 +70,7 @@ pub fn write_line(out: &mut String, line: Line) -> Result<(), AllocError>
     writeln!(out, "{line}")
 }
 
-// The text of all lines.
+/// The text of all lines.
 pub fn print(heap: Global, lines: &[Line]) -> Result<String, AllocError>
     ensures { IfOk result (λ text. string_bytes text ≡ account lines.now) }
 {

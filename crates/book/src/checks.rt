@@ -8,7 +8,7 @@ ghost use Rattle.book.specs.declared.faults.BookFault.TheVariants.{Form, Desk};
 use crate::faults::BookFault;
 use desks::Parameter;
 
-// Whether a group may have that many desks.
+/// Whether a group may have that many desks.
 pub fn check_desks(desks: u8) -> Result<(), BookFault>
     ensures { result ≡ unless (first ((outside 2 16 desks, Form (Range Desks)) ∷ [])) tt }
 {
@@ -16,7 +16,7 @@ pub fn check_desks(desks: u8) -> Result<(), BookFault>
     Ok(())
 }
 
-// Whether so many bytes of memory are enough.
+/// Whether so many bytes of memory are enough.
 pub fn check_memory(bytes: usize, needed: usize) -> Result<(), BookFault>
     ensures { result ≡ unless (first ((nat_lt bytes needed, Form (Memory needed)) ∷ [])) tt }
 {
@@ -24,7 +24,7 @@ pub fn check_memory(bytes: usize, needed: usize) -> Result<(), BookFault>
     Ok(())
 }
 
-// Whether a desk is one of so many.
+/// Whether a desk is one of so many.
 pub fn check_desk(desks: u8, desk: u8) -> Result<(), BookFault>
     ensures { result ≡ unless (first ((nat_le desks desk, Desk desk) ∷ [])) tt }
 {

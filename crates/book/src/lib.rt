@@ -1,4 +1,4 @@
-// What a book is: its faults, its meaning and laws, and the calls that every book answers.
+//! What a book is: its faults, its meaning and laws, and the calls that every book answers.
 #![tactic(auto)]
 
 ghost use Rattle.std.specs.Prelude.{◌≡◌, ℕ, ◌≤◌, List, length, ℤ, neg_ℤ, IfOk, None, unsigned_abs};
@@ -14,20 +14,20 @@ pub use checks::{check_desk, check_desks, check_memory};
 pub use faults::{BookFault, WrongField};
 pub use item::{Item, Opening};
 
-// The copies of a book at the desks of a group. Each desk has figures, and enters items one by one; what an item is and does
-// to them is the book's own.
+/// The copies of a book at the desks of a group. Each desk has figures, and enters items one by one; what an item is and does
+/// to them is the book's own.
 pub trait Book<'a>: Sized {
     ghost model: { BookModel Self };
 
-    // The bytes that it needs for that many desks.
+    /// The bytes that it needs for that many desks.
     fn bytes(desks: u8) -> Result<usize, BookFault>
         ensures { result ≡ bytes_reply model desks };
 
-    // Whether it can be made.
+    /// Whether it can be made.
     fn check(desks: u8, memory: &[u8]) -> Result<(), BookFault>
         ensures { result ≡ unless (first (form_tests model desks (length memory.now))) tt };
 
-    // A new book. The desks are no part of the memory, which may be larger than they need.
+    /// A new book. Desks and memory are two parameters: the memory may be larger than the desks need.
     fn make(desks: u8, memory: &'a mut [u8]) -> Self
         requires { first (form_tests model desks (length memory.old)) ≡ None }
         ensures { Made model desks memory.old result };
@@ -35,23 +35,23 @@ pub trait Book<'a>: Sized {
     fn desks(&self) -> u8
         ensures { result ≡ model.desks self.now };
 
-    // How many figures a desk has.
+    /// How many figures a desk has.
     fn width(&self) -> u16
         ensures { result ≡ (rules_of model self.now).width };
 
-    // Sets one figure of every desk.
+    /// Sets one figure of every desk.
     fn open(&mut self, opening: Opening) -> Result<(), BookFault>
         ensures { Opens model self.old opening.figure opening.amount result self.new };
 
-    // The offset of the item's first wrong field; none if it is well-formed.
+    /// The offset of the item's first wrong field; none if it is well-formed.
     fn malformed(&self, item: Item) -> Result<Option<u8>, BookFault>
         ensures { result ≡ malformed_reply model self.now item.origin item.bytes };
 
-    // Whether the desk may enter the item now.
+    /// Whether the desk may enter the item now.
     fn admits(&self, desk: u8, item: Item) -> Result<bool, BookFault>
         ensures { result ≡ admits_reply model self.now desk item.origin item.bytes };
 
-    // Enters the item at the desk.
+    /// Enters the item at the desk.
     fn enter(&mut self, desk: u8, item: Item) -> Result<(), BookFault>
         ensures { Enters model self.old desk item.origin item.bytes result self.new };
 
@@ -59,12 +59,12 @@ pub trait Book<'a>: Sized {
         ensures value { result ≡ figure_reply model self.now desk figure }
         ensures within { IfOk result (λ z. unsigned_abs z ≤ model.limit) };
 
-    // How many items the desk entered.
+    /// How many items the desk entered.
     fn count(&self, desk: u8) -> Result<u16, BookFault>
         ensures { result ≡ count_reply model self.now desk };
 }
 
-// A book whose desks have a hedge need, which their figures determine.
+/// A book whose desks have a hedge need, which their figures determine.
 pub trait Hedged<'a>: Book<'a> {
     ghost weigh: { List ℤ → ℤ };
 
@@ -72,7 +72,7 @@ pub trait Hedged<'a>: Book<'a> {
         ensures { result ≡ need_reply Self.Book.model weigh self.now desk };
 }
 
-// Forms a book on lent memory, or says why not.
+/// Forms a book on lent memory, or says why not.
 pub fn form<'a, B: Book<'a>>(desks: u8, memory: &'a mut [u8]) -> Result<B, BookFault>
     ensures { Forms B.Book.model desks memory.old result }
 {

@@ -4,9 +4,9 @@ ghost use Rattle.carrier.specs.Declines.{size_tests, form_tests};
 ghost use Rattle.carrier.specs.declared.faults.CarrierFault.TheVariants.{Form};
 
 use crate::faults::CarrierFault;
-use desks::{Group, Parameter, check_memory};
+use desks::{GroupParameters, Parameter, check_memory};
 
-// Whether a group may have that many desks and numbers.
+/// Whether a group may have that many desks and numbers: no more of it decides how many bytes it needs.
 pub fn check_size(desks: u8, numbers: u8) -> Result<(), CarrierFault>
     ensures { result ≡ unless (first (size_tests desks numbers)) tt }
 {
@@ -15,16 +15,14 @@ pub fn check_size(desks: u8, numbers: u8) -> Result<(), CarrierFault>
     Ok(())
 }
 
-// Whether a group fits a factor, and so many bytes of memory what it needs.
+/// Whether a group fits its factor, and so many bytes of memory what it needs.
 pub fn check_group(
-    factor: u8,
+    parameters: GroupParameters,
     needed: usize,
-    group: Group,
     memory: usize,
 ) -> Result<(), CarrierFault>
-    ensures { result ≡ unless (first (tests_above Form (form_tests factor needed group memory))) tt }
+    ensures { result ≡ unless (first (tests_above Form (form_tests parameters.factor needed parameters.group memory))) tt }
 {
-    let parameters = group.under(factor);
     parameters.check_ranges()?;
     parameters.check_bounds()?;
     check_memory(memory, needed)?;

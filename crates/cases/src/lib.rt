@@ -1,4 +1,4 @@
-// Scripts, and the accounts that they must print.
+//! Scripts, and the accounts that they must print.
 #![tactic(auto)]
 
 #[cfg(test)]

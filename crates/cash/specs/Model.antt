@@ -14,7 +14,11 @@ kind = record { model = payments }
 abbrev pub Cash : Type 0
 Cash = Copies Payment kind
 
-pub cash_sound : (b : Cash) → Sound (cash b.ledger.desks) balance_limit b.ledger.desks (figures b.ledger) (count_at b.ledger)
+-- at every value each desk has the figures of the rules, none beyond the limit, and no more items than it may have
+abbrev pub AllSound : Type 0
+AllSound = (b : Cash) → Sound (cash b.ledger.desks) balance_limit b.ledger.desks (figures b.ledger) (count_at b.ledger)
+
+pub cash_sound : AllSound
 cash_sound = copies_sound kind
 
 abbrev pub cash_model : BookModel Cash

@@ -6,7 +6,7 @@ ghost use Rattle.cash.specs.Payments.{wrong_fields, payment_of};
 use book::{Item, WrongField};
 use copies::{Entry, Movement, Openings};
 
-// A well-formed item: an amount to another desk.
+/// A well-formed item: an amount to another desk.
 #[derive(Clone, Copy, PartialEq, Eq, Debug)]
 pub struct Payment {
     pub payee: u8,
@@ -34,6 +34,7 @@ impl Entry for Payment {
     fn read(desks: u8, item: Item) -> Result<Payment, WrongField>
         ensures { result ≡ reading (first (wrong_fields desks item.origin item.bytes)) (payment_of item.bytes) }
     {
+        // The pattern names each byte; a type for the fields of both books would be taken apart here again.
         let [kind, payee, a, b, c, d, e, f] = item.bytes;
         if kind != 3 {
             return Err(WrongField { offset: 0 });

@@ -2,7 +2,6 @@ use crate::{Cash, Payment};
 use book::{Book, BookFault, Item, Opening, form};
 use copies::Entry;
 use desks::{ITEM_SIZE, Refusal};
-use std::process::Abort;
 use std::test::Fail;
 
 fn bytes(kind: u8, payee: u8, amount: u32, zeros: [u8; 2]) -> [u8; ITEM_SIZE] {
@@ -52,11 +51,10 @@ fn reads_each_field_to_its_edges(rt: HostRuntime) {
 }
 
 // Each balance takes an opening of 0 to 1,000,000,000.
-fn open_to_the_edges<'a, B: Book<'a> + Drop>(
-    rt: &impl Abort,
-    memory: &'a mut [u8],
-) -> Result<(), Fail> {
-    let mut book = form::<B>(2, memory)?;
+#[test]
+fn opens_to_the_edges(rt: HostRuntime) -> Result<(), Fail> {
+    let mut memory = [0u8; 32];
+    let mut book: Cash<'_> = form(2, &mut memory)?;
     let cases = [
         (0, 1_000_000_000, Ok(())),
         (1, 0, Ok(())),
@@ -75,18 +73,11 @@ fn open_to_the_edges<'a, B: Book<'a> + Drop>(
     Ok(())
 }
 
-#[test]
-fn opens_to_the_edges(rt: HostRuntime) -> Result<(), Fail> {
-    let mut memory = [0u8; 32];
-    open_to_the_edges::<Cash<'_>>(&rt, &mut memory)
-}
-
 // A balance of 100 pays 100, and then not 1 more. Entered at desk 0, it changes nothing at desk 1.
-fn pay_to_the_last<'a, B: Book<'a> + Drop>(
-    rt: &impl Abort,
-    memory: &'a mut [u8],
-) -> Result<(), Fail> {
-    let mut book = form::<B>(2, memory)?;
+#[test]
+fn pays_to_the_last(rt: HostRuntime) -> Result<(), Fail> {
+    let mut memory = [0u8; 32];
+    let mut book: Cash<'_> = form(2, &mut memory)?;
     book.open(opening(1, 100))?;
     assert_eq!(rt; book.admits(0, item(1, 3, 0, 101)), Ok(false));
     assert_eq!(rt;
@@ -110,27 +101,14 @@ fn pay_to_the_last<'a, B: Book<'a> + Drop>(
     Ok(())
 }
 
-#[test]
-fn pays_to_the_last(rt: HostRuntime) -> Result<(), Fail> {
-    let mut memory = [0u8; 32];
-    pay_to_the_last::<Cash<'_>>(&rt, &mut memory)
-}
-
 // Of three desks the last has a balance too, at every desk.
-fn open_the_last_of_three<'a, B: Book<'a> + Drop>(
-    rt: &impl Abort,
-    memory: &'a mut [u8],
-) -> Result<(), Fail> {
-    let mut book = form::<B>(3, memory)?;
+#[test]
+fn opens_the_last_of_three(rt: HostRuntime) -> Result<(), Fail> {
+    let mut memory = [0u8; 72];
+    let mut book: Cash<'_> = form(3, &mut memory)?;
     assert_eq!(rt; book.figure(0, 2), Ok(0));
     assert_eq!(rt; book.open(opening(2, 7)), Ok(()));
     assert_eq!(rt; book.figure(1, 2), Ok(7));
     assert_eq!(rt; book.figure(1, 3), Err(BookFault::Figure(3)));
     Ok(())
-}
-
-#[test]
-fn opens_the_last_of_three(rt: HostRuntime) -> Result<(), Fail> {
-    let mut memory = [0u8; 72];
-    open_the_last_of_three::<Cash<'_>>(&rt, &mut memory)
 }

@@ -1,4 +1,4 @@
-// Lent bytes cut into cells of equal width: cell i is the `width` bytes from i * width on, there if it ends within the bytes.
+//! Lent bytes cut into cells of equal width: cell i is the `width` bytes from i * width on, there if it ends within the bytes.
 #![tactic(auto)]
 
 ghost use Rattle.std.specs.Prelude.{◌≡◌, length, replicate, is_ok};
@@ -8,24 +8,24 @@ ghost use Rattle.cells.specs.Cell.{range_of, cell, put_tests, Put, Cleared};
 
 use std::ops::Range;
 
-// Why bytes are not put into a cell.
+/// Why bytes are not put into a cell.
 #[derive(Clone, Copy, PartialEq, Eq, Debug)]
 pub enum CellFault {
-    // They are not as many as a cell is wide.
+    /// They are not as many as a cell is wide.
     Width,
-    // The cell is not there.
+    /// The cell is not there.
     Absent,
 }
 
-// The bytes are lent. The width is no parameter of the type: who makes cells may learn it only as the program runs.
-#[derive(Drop)]
+/// The bytes are lent. The width is no parameter of the type: `new` takes any, also one that is read as the program runs.
+#[derive(Debug, Drop)]
 pub struct Cells<'a> {
     bytes: &'a mut [u8],
     width: usize,
 }
 
 impl<'a> Cells<'a> {
-    // Cells over the bytes, which are all 0 from here on.
+    /// Cells over the bytes, which are all 0 from here on.
     pub fn new(bytes: &'a mut [u8], width: usize) -> Cells<'a>
         ensures sized { result.width ≡ width }
         ensures zero { result.bytes.now ≡ replicate (length bytes.old) 0 }
@@ -50,14 +50,14 @@ impl<'a> Cells<'a> {
         (end <= self.bytes.len()).then_some(start..end)
     }
 
-    // The bytes of cell i.
+    /// The bytes of cell i.
     pub fn get(&self, i: usize) -> Option<&[u8]>
         ensures { option_copied result ≡ cell self.now i }
     {
         Some(&self.bytes[self.range(i)?])
     }
 
-    // Cell i holds x from here on. On a fault nothing changes.
+    /// Cell i holds x from here on. On a fault nothing changes.
     pub fn put(&mut self, i: usize, x: &[u8]) -> Result<(), CellFault>
         ensures reply { result ≡ unless (first (put_tests self.old i x.now)) tt }
         ensures change { Put self.old i x.now (is_ok result) self.new }
@@ -70,7 +70,7 @@ impl<'a> Cells<'a> {
         Ok(())
     }
 
-    // Every byte 0.
+    /// Every byte 0.
     pub fn clear(&mut self)
         ensures { Cleared self.old self.new }
     {

@@ -21,8 +21,19 @@ impl<'a, E: Entry> Copies<'a, E> {
     ghost use Rattle.book.specs.Rules.{total};
     ghost use Rattle.copies.specs.Carrying.{Ready, Carried};
     ghost use Rattle.copies.specs.Entries.{covered};
+    ghost use Rattle.std.specs.Prelude.{[], ◌∷◌, nat_le};
+    ghost use Rattle.desks.specs.Firsts.{first, unless};
+    ghost use Rattle.book.specs.declared.faults.BookFault.TheVariants.{Desk};
 
-    // Whether the figure that pays has the amount, in that desk's copy; so it is where none pays.
+    // Whether a desk is one of the group.
+    fn check_desk(&self, desk: u8) -> Result<(), BookFault>
+        ensures { result ≡ unless (first ((nat_le self.now.ledger.desks desk, Desk desk) ∷ [])) tt }
+    {
+        check_desk(self.ledger.desks(), desk)
+    }
+
+    // Whether the figure that pays has the amount, in that desk's copy; so it is where none pays. A match, since the check does
+    // not find what `is_none_or` says of the figure.
     fn covers(&self, desk: u8, movement: Movement) -> bool
         ensures { result ≡ covered movement (figures self.now.ledger desk) }
     {
@@ -32,7 +43,8 @@ impl<'a, E: Entry> Copies<'a, E> {
         }
     }
 
-    // Counts an item of the desk, and carries out what it moves. The ledger does all of it: it has the figures, and every sum is within the bounds.
+    // Counts an item of the desk, and carries out what it moves. The ledger does all of it: it has the figures, and every sum is
+    // within the bounds.
     fn carry_out(&mut self, desk: u8, movement: Movement)
         requires { Ready E.model.step self.old.ledger desk movement }
         ensures { Carried self.old.ledger desk movement self.new.ledger }
@@ -103,26 +115,25 @@ impl<'a, E: Entry> Book<'a> for Copies<'a, E> {
     }
 
     fn malformed(&self, item: Item) -> Result<Option<u8>, BookFault> {
-        let desks = self.ledger.desks();
-        check_desk(desks, item.origin)?;
-        Ok(E::read(desks, item).err().map(|wrong| wrong.offset))
+        self.check_desk(item.origin)?;
+        let read = E::read(self.ledger.desks(), item);
+        Ok(read.err().map(|wrong| wrong.offset))
     }
 
     fn admits(&self, desk: u8, item: Item) -> Result<bool, BookFault> {
-        let desks = self.ledger.desks();
-        check_desk(desks, desk)?;
-        check_desk(desks, item.origin)?;
-        match E::read(desks, item) {
+        self.check_desk(desk)?;
+        self.check_desk(item.origin)?;
+        // A match, since the check does not find what `is_ok_and` says of the entry.
+        match E::read(self.ledger.desks(), item) {
             Ok(entry) => Ok(self.covers(desk, entry.movement(item.origin))),
             Err(_) => Ok(false),
         }
     }
 
     fn enter(&mut self, desk: u8, item: Item) -> Result<(), BookFault> {
-        let desks = self.ledger.desks();
-        check_desk(desks, desk)?;
-        check_desk(desks, item.origin)?;
-        let movement = E::read(desks, item)?.movement(item.origin);
+        self.check_desk(desk)?;
+        self.check_desk(item.origin)?;
+        let movement = E::read(self.ledger.desks(), item)?.movement(item.origin);
         if !self.covers(desk, movement) {
             return Err(BookFault::NotAdmitted(item.origin));
         }
@@ -134,7 +145,7 @@ impl<'a, E: Entry> Book<'a> for Copies<'a, E> {
     }
 
     fn figure(&self, desk: u8, figure: u16) -> Result<i64, BookFault> {
-        check_desk(self.ledger.desks(), desk)?;
+        self.check_desk(desk)?;
         if figure >= self.ledger.width() {
             return Err(BookFault::Figure(figure));
         }
@@ -142,7 +153,7 @@ impl<'a, E: Entry> Book<'a> for Copies<'a, E> {
     }
 
     fn count(&self, desk: u8) -> Result<u16, BookFault> {
-        check_desk(self.ledger.desks(), desk)?;
+        self.check_desk(desk)?;
         Ok(self.ledger.count(desk))
     }
 }
@@ -154,9 +165,7 @@ impl<'a, E: Hedging> Hedged<'a> for Copies<'a, E> {
 
     // What would bring the desk's net to 0.
     fn need(&self, desk: u8) -> Result<i64, BookFault> {
-        check_desk(self.ledger.desks(), desk)?;
-        let net = self.net(desk);
-        let need = -net;
-        Ok(need)
+        self.check_desk(desk)?;
+        Ok(-self.net(desk))
     }
 }

@@ -1,4 +1,5 @@
-// A book as each desk's copy of figures over one ledger, for any kind of entry: what its items are read as, and what they move.
+//! A book as each desk's copy of figures over one ledger, for any kind of entry: what its items are read as, and what they
+//! move.
 #![tactic(auto)]
 
 mod calls;

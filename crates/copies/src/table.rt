@@ -7,8 +7,8 @@ use crate::entry::Entry;
 use ledger::Ledger;
 use std::marker::PhantomData;
 
-// Each desk's copy of the figures, which entries of one kind change.
-#[derive(Drop)]
+/// Each desk's copy of the figures, which entries of one kind change.
+#[derive(Debug, Drop)]
 pub struct Copies<'a, E: Entry> {
     pub(crate) ledger: Ledger<'a>,
     pub(crate) entries: PhantomData<E>,

@@ -1,4 +1,4 @@
-// Reads a script from standard input and writes its account to standard output.
+//! Reads a script from standard input and writes its account to standard output.
 #![tactic(auto)]
 
 use script::account_text;

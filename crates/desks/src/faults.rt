@@ -6,7 +6,7 @@ ghost use Rattle.desks.specs.declared.faults.FormFault.TheVariants.{Range, Memor
 
 use std::fmt;
 
-// The layer that refuses.
+/// The layer that refuses.
 #[derive(Clone, Copy, PartialEq, Eq, Debug)]
 pub enum Layer {
     Frame,
@@ -17,7 +17,7 @@ pub enum Layer {
 }
 
 impl Layer {
-    // The letter that a refusal prints. By `From` the call would not say what the character is.
+    /// The letter that a refusal prints. By `From` the call would not say what the character is.
     pub fn letter(self) -> char
         ensures { result ≡ letter_of self }
     {
@@ -27,6 +27,17 @@ impl Layer {
             Layer::Book => 'B',
             Layer::Floor => 'D',
             Layer::Script => 'S',
+        }
+    }
+
+    /// Its refusal of that number, at that place.
+    pub fn refusal(self, number: u8, place: usize) -> Refusal
+        ensures { result ≡ record { number = number; layer = self; place = place } }
+    {
+        Refusal {
+            number,
+            layer: self,
+            place,
         }
     }
 }
@@ -39,8 +50,8 @@ impl fmt::Display for Layer {
     }
 }
 
-// What a refusal says: its number, the layer that gives it, and the place that it names. The number is what is printed; which
-// refusal it is stands in the layer's own enum of faults, and an enum of all numbers would name each fault twice.
+/// What a refusal says: its number, the layer that gives it, and the place that it names. The number is what is printed; which
+/// refusal it is stands in the layer's own enum of faults, and an enum of all numbers would name each fault twice.
 #[derive(Clone, Copy, PartialEq, Eq, Debug)]
 pub struct Refusal {
     pub number: u8,
@@ -48,7 +59,7 @@ pub struct Refusal {
     pub place: usize,
 }
 
-// A parameter of forming that has a range of its own.
+/// A parameter of forming that has a range of its own.
 #[derive(Clone, Copy, PartialEq, Eq, Debug)]
 pub enum Parameter {
     Desks,
@@ -59,7 +70,7 @@ pub enum Parameter {
 }
 
 impl Parameter {
-    // The place that a refusal names it by. By `From` the call would not say what the number is.
+    /// The place that a refusal names it by. By `From` the call would not say what the number is.
     pub fn place(self) -> usize
         ensures { result ≡ place_of self }
     {
@@ -85,7 +96,7 @@ impl Parameter {
         }
     }
 
-    // Refuses a value outside the parameter's range.
+    /// Refuses a value outside the parameter's range.
     pub fn check(self, value: u8) -> Result<(), FormFault>
         ensures { result ≡ unless (first ((out_of_range self value, Range self) ∷ [])) tt }
     {
@@ -97,39 +108,34 @@ impl Parameter {
     }
 }
 
-// Why a floor, a carrier or a book cannot be formed. The layer is that of whoever refuses.
+/// Why a floor, a carrier or a book cannot be formed. The layer is that of whoever refuses.
 #[derive(Clone, Copy, PartialEq, Eq, Debug)]
 pub enum FormFault {
-    // A parameter is outside its range.
+    /// A parameter is outside its range.
     Range(Parameter),
-    // The factor times this number of faults is not below the number of desks.
+    /// The factor times this number of faults is not below the number of desks.
     Resilience(u8),
-    // The faulty set, of this size, has a desk outside the group or more desks than may be faulty.
+    /// The faulty set, of this size, has a desk outside the group or more desks than may be faulty.
     FaultySet(u8),
-    // The memory is shorter than these bytes.
+    /// The memory is shorter than these bytes.
     Memory(usize),
 }
 
 impl FormFault {
-    // What it says, as that layer.
+    /// Its number, layer and place, as that layer.
     pub fn refusal(self, layer: Layer) -> Refusal
         ensures { result ≡ form_refusal layer self }
     {
-        let (number, place) = match self {
-            FormFault::Range(parameter) => (1, parameter.place()),
-            FormFault::Resilience(faults) => (2, usize::from(faults)),
-            FormFault::FaultySet(size) => (3, usize::from(size)),
-            FormFault::Memory(needed) => (4, needed),
-        };
-        Refusal {
-            number,
-            layer,
-            place,
+        match self {
+            FormFault::Range(parameter) => layer.refusal(1, parameter.place()),
+            FormFault::Resilience(faults) => layer.refusal(2, usize::from(faults)),
+            FormFault::FaultySet(size) => layer.refusal(3, usize::from(size)),
+            FormFault::Memory(needed) => layer.refusal(4, needed),
         }
     }
 }
 
-// Refuses memory of fewer bytes than are needed.
+/// Refuses memory of fewer bytes than are needed.
 pub fn check_memory(bytes: usize, needed: usize) -> Result<(), FormFault>
     ensures { result ≡ unless (first ((nat_lt bytes needed, Memory needed) ∷ [])) tt }
 {

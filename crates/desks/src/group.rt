@@ -5,7 +5,7 @@ ghost use Rattle.desks.specs.Forming.{ranges, bounds, parameters_under};
 use crate::faults::{FormFault, Parameter};
 use crate::set::DeskSet;
 
-// A group: how many desks there are, how many items each may publish, how many desks may be faulty, and which are.
+/// A group: how many desks there are, how many items each may publish, how many desks may be faulty, and which are.
 #[derive(Clone, Copy, PartialEq, Eq, Debug)]
 pub struct Group {
     pub desks: u8,
@@ -15,7 +15,7 @@ pub struct Group {
 }
 
 impl Group {
-    // Its parameters under a protocol of that factor.
+    /// Its parameters under a protocol of that factor.
     pub fn under(self, factor: u8) -> GroupParameters
         ensures { result ≡ parameters_under factor self }
     {
@@ -26,7 +26,7 @@ impl Group {
     }
 }
 
-// A group, and the factor by which its desks outnumber those that may be faulty.
+/// A group, and the factor by which its desks outnumber those that may be faulty.
 #[derive(Clone, Copy, PartialEq, Eq, Debug)]
 pub struct GroupParameters {
     pub group: Group,
@@ -34,7 +34,7 @@ pub struct GroupParameters {
 }
 
 impl GroupParameters {
-    // The first parameter outside its range.
+    /// The first parameter outside its range.
     pub fn check_ranges(self) -> Result<(), FormFault>
         ensures { result ≡ unless (first (ranges self)) tt }
     {
@@ -44,7 +44,7 @@ impl GroupParameters {
         Parameter::Factor.check(self.factor)
     }
 
-    // Whether the parameters fit each other.
+    /// Whether the parameters fit each other.
     pub fn check_bounds(self) -> Result<(), FormFault>
         ensures { result ≡ unless (first (bounds self)) tt }
     {

@@ -1,4 +1,4 @@
-// What every layer shares: sets of desks, the parameters of a group, and what a refusal says.
+//! What every layer shares: sets of desks, the parameters of a group, and what a refusal says.
 #![tactic(auto)]
 
 mod faults;
@@ -9,7 +9,7 @@ pub use faults::{FormFault, Layer, Parameter, Refusal, check_memory};
 pub use group::{Group, GroupParameters};
 pub use set::DeskSet;
 
-// The bytes of an item, the unit that desks publish and book.
+/// The bytes of an item, the unit that desks publish and book.
 pub const ITEM_SIZE: usize = 8;
 
 #[cfg(test)]

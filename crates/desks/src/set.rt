@@ -1,7 +1,7 @@
 ghost use Rattle.std.specs.Prelude.{◌≡◌, ℕ, Decides};
 ghost use Rattle.desks.specs.Sets.{has_desk, size_of, beyond, Beyond, Joined};
 
-// A set of desks: bit d stands for desk d.
+/// A set of desks: bit d stands for desk d. It has no model, since definitions of every layer speak of the bits.
 #[derive(Clone, Copy, PartialEq, Eq, Debug)]
 pub struct DeskSet {
     bits: u16,
@@ -14,14 +14,14 @@ impl DeskSet {
         DeskSet { bits }
     }
 
-    // Whether a desk is in it.
+    /// Whether a desk is in it.
     pub fn has(self, desk: u8) -> bool
         ensures { result ≡ has_desk self.bits desk }
     {
         desk < 16 && (self.bits >> desk) % 2 == 1
     }
 
-    // The set with one desk more. A number that is no desk's adds none.
+    /// The set with one desk more. A number that is no desk's adds none.
     pub fn with(self, desk: u8) -> DeskSet
         ensures { Joined self.bits desk result.bits }
     {
@@ -34,14 +34,14 @@ impl DeskSet {
         }
     }
 
-    // How many desks are in it: at most 16, which no conversion without a fault could know.
+    /// How many desks are in it. By `as`: `u8::from` takes no 32 bits, and no more than 16 are counted.
     pub fn size(self) -> u8
         ensures { result ≡ size_of self.bits }
     {
         self.bits.count_ones() as u8
     }
 
-    // Whether it has a desk that is not below that number.
+    /// Whether it has a desk that is not below that number.
     pub fn reaches(self, desks: u8) -> bool
         ensures value { result ≡ beyond self.bits desks }
         ensures meaning { Decides result (Beyond self.bits desks) }

@@ -5,39 +5,39 @@ ghost use Rattle.floor.specs.Refusals.{floor_refusal};
 use book::BookFault;
 use desks::{FormFault, Layer, Refusal};
 
-// Why a floor declines a call. A fault of the book is kept whole.
+/// Why a floor declines a call. A fault of the book is kept whole.
 #[derive(Clone, Copy, PartialEq, Eq, Debug)]
 pub enum FloorFault {
-    // It cannot be formed.
+    /// It cannot be formed.
     Form(FormFault),
-    // The book declines.
+    /// The book declines.
     Book(BookFault),
 }
 
 impl From<FormFault> for FloorFault {
     ghost from_gives = { λ f r. r ≡ Form f };
 
-    fn from(f: FormFault) -> FloorFault {
-        FloorFault::Form(f)
+    fn from(fault: FormFault) -> FloorFault {
+        FloorFault::Form(fault)
     }
 }
 
 impl From<BookFault> for FloorFault {
     ghost from_gives = { λ f r. r ≡ Book f };
 
-    fn from(f: BookFault) -> FloorFault {
-        FloorFault::Book(f)
+    fn from(fault: BookFault) -> FloorFault {
+        FloorFault::Book(fault)
     }
 }
 
-// What it says.
+// Its number, layer and place.
 impl From<FloorFault> for Refusal {
     ghost from_gives = { λ f r. r ≡ floor_refusal f };
 
-    fn from(f: FloorFault) -> Refusal {
-        match f {
-            FloorFault::Form(fault) => fault.refusal(Layer::Floor),
-            FloorFault::Book(fault) => Refusal::from(fault),
+    fn from(fault: FloorFault) -> Refusal {
+        match fault {
+            FloorFault::Form(form) => form.refusal(Layer::Floor),
+            FloorFault::Book(book) => book.into(),
         }
     }
 }

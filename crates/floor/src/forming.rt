@@ -11,7 +11,7 @@ use cash::Cash;
 use desks::{FormFault, GroupParameters, Parameter, check_memory};
 use positions::Positions;
 
-// The books that a floor may have.
+/// The books that a floor may have.
 #[derive(Clone, Copy, PartialEq, Eq, Debug)]
 pub enum BookKind {
     Positions,
@@ -46,8 +46,8 @@ impl BookKind {
     }
 }
 
-// Whether a floor can be formed on so many bytes of memory, and with which book. The book is still the code that was read: the
-// ranges before it are refused first.
+/// Whether a floor can be formed on so many bytes of memory, and with which book. The book is still the code that was read: the
+/// ranges before it are refused first.
 pub fn check_form(
     parameters: GroupParameters,
     book: u8,

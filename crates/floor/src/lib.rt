@@ -1,4 +1,4 @@
-// The floor's faults, and the check of forming.
+//! The floor's faults, and the check of forming.
 #![tactic(auto)]
 
 mod faults;

@@ -3,17 +3,17 @@ ghost use Rattle.frame.specs.Frames.{frame_kind, frame_body, frame_origin, frame
 
 use crate::kinds::Kind;
 
-// Whose item a frame is of, which of that desk's items it is, and the content, a part of the bytes received: a barrier for
-// each desk, and the item.
-#[derive(Clone, Copy, Drop, PartialEq, Eq, Debug)]
+/// Whose item a frame is of, which of that desk's items it is, and the content, a part of the bytes received: a barrier for
+/// each desk, and the item.
+#[derive(Clone, Copy, PartialEq, Eq, Debug)]
 pub struct Body<'a> {
     pub origin: u8,
     pub number: u8,
     pub content: &'a [u8],
 }
 
-// A frame, by its kind.
-#[derive(Clone, Copy, Drop, PartialEq, Eq, Debug)]
+/// A frame, by its kind.
+#[derive(Clone, Copy, PartialEq, Eq, Debug)]
 pub enum Frame<'a> {
     Init(Body<'a>),
     Echo(Body<'a>),
@@ -22,7 +22,7 @@ pub enum Frame<'a> {
 }
 
 impl<'a> Frame<'a> {
-    // The frame of that kind.
+    /// The frame of that kind.
     pub fn new(kind: Kind, body: Body<'a>) -> Frame<'a>
         ensures { saying result ≡ says kind body.entry }
     {

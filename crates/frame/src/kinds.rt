@@ -5,7 +5,7 @@ ghost use Rattle.frame.specs.Kinds.{code_of, kind_of, known_to, has_kind};
 
 use crate::faults::FrameFault;
 
-// What a frame says of its item.
+/// What a frame says of its item.
 #[derive(Clone, Copy, PartialEq, Eq, Debug)]
 pub enum Kind {
     Init,
@@ -45,7 +45,8 @@ impl TryFrom<u8> for Kind {
     }
 }
 
-// The set of kinds that a protocol knows: four flags, since a factor may be that of no protocol.
+/// The set of kinds that a protocol knows, a flag for each: definitions ask kind by kind, and a factor may be that of no
+/// protocol.
 #[derive(Clone, Copy, PartialEq, Eq, Debug)]
 pub struct Kinds {
     init: bool,
@@ -62,7 +63,7 @@ impl Kinds {
         witness: false,
     };
 
-    // Those of the protocol of a factor: echoes and readies at 3, witnesses at 5.
+    /// Those of the protocol of a factor: echoes and readies at 3, witnesses at 5.
     pub fn of_factor(factor: u8) -> Kinds
         ensures { result ≡ known_to factor }
     {
@@ -82,7 +83,7 @@ impl Kinds {
         }
     }
 
-    // Whether a kind is one of them.
+    /// Whether a kind is one of them.
     pub fn has(self, kind: Kind) -> bool
         ensures { result ≡ has_kind self kind }
     {

@@ -1,4 +1,4 @@
-// The frames that desks send each other: their kinds, what refuses one, and the reader and the writer of their bytes.
+//! The frames that desks send each other: their kinds, what refuses one, and the reader and the writer of their bytes.
 #![tactic(auto)]
 
 mod faults;

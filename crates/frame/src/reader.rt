@@ -7,8 +7,8 @@ use crate::frame::{Body, Frame};
 use crate::kinds::{Kind, Kinds};
 use desks::ITEM_SIZE;
 
-// Reads a frame that a peer sent to a group of that many desks, which publish at most that many numbers: no more of a group
-// decides whether bytes are a frame.
+/// Reads a frame that a peer sent to a group of that many desks, which publish at most that many numbers: no more of a group
+/// decides whether bytes are a frame.
 pub fn read<'a>(
     bytes: &'a [u8],
     desks: u8,

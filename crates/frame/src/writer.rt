@@ -6,7 +6,7 @@ ghost use Rattle.frame.specs.Laws.{ReadsBack};
 use crate::faults::FrameFault;
 use crate::frame::Frame;
 
-// Writes the bytes of a frame to the front of the output, and answers how many they are.
+/// Writes the bytes of a frame to the front of the output, and answers how many they are.
 pub fn write(frame: Frame<'_>, out: &mut [u8]) -> Result<usize, FrameFault>
     ensures answer { result ≡ unless (first (output_tests frame.entry (length out.old))) (needed_by frame.entry) }
     ensures output { out.new ≡ written frame.entry out.old }

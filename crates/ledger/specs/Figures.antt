@@ -20,10 +20,6 @@ value_in (Some x) = value_of x
 abbrev pub known : Ledger → ℕ → ℕ → Bool
 known l d i = nat_lt d l.desks && nat_lt i l.width
 
--- the cell of figure i of desk d
-abbrev pub place_of : Ledger → ℕ → ℕ → Option ℕ
-place_of l d i = cond (known l d i) (Some (d * l.width + i)) None
-
 -- figure i of desk d, and 0 where there is none
 abbrev pub figure_at : Ledger → ℕ → ℕ → ℤ
 figure_at l d i = cond (known l d i) (value_in (cell l.cells (d * l.width + i))) (pos 0)

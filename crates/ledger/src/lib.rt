@@ -1,4 +1,5 @@
-// The figures and counts of a group of desks, over lent memory: figure i of desk d is a signed number, high byte first, in the cell of eight bytes at d * width + i.
+//! The figures and counts of a group of desks, over lent memory: figure i of desk d is a signed number, high byte first, in the
+//! cell of eight bytes at d * width + i.
 #![tactic(auto)]
 
 ghost use Rattle.std.specs.Prelude.{◌≡◌, ◌+◌, ◌*◌, is_ok};
@@ -7,39 +8,39 @@ ghost use Rattle.ledger.specs.declared.LedgerFault.TheVariants.{Cell};
 
 use cells::{CellFault, Cells};
 
-// Why a figure or a count stays as it is.
+/// Why a figure or a count stays as it is.
 #[derive(Clone, Copy, PartialEq, Eq, Debug)]
 pub enum LedgerFault {
-    // The ledger has no such desk.
+    /// The ledger has no such desk.
     Desk,
-    // A desk has no such figure.
+    /// A desk has no such figure.
     Figure,
-    // The memory does not hold the figure.
+    /// The memory does not hold the figure.
     Cell(CellFault),
-    // The sum is no 64-bit number.
+    /// The sum is no 64-bit number.
     Sum,
-    // There is no count for the desk.
+    /// There is no count for the desk.
     Uncounted,
-    // The count is the largest.
+    /// The count is the largest.
     Full,
 }
 
 impl From<CellFault> for LedgerFault {
     ghost from_gives = { λ f r. r ≡ Cell f };
 
-    fn from(f: CellFault) -> LedgerFault {
-        LedgerFault::Cell(f)
+    fn from(fault: CellFault) -> LedgerFault {
+        LedgerFault::Cell(fault)
     }
 }
 
-// The counts are the first `desks` of an array as long as a group can be: there is no heap.
-#[derive(Drop)]
+/// The counts are the first `desks` of an array as long as a group can be: there is no heap.
+#[derive(Debug, Drop)]
 pub struct Ledger<'a> {
     cells: Cells<'a>,
     desks: u8,
     width: u16,
     counts: [u16; 16],
-    ghost cut: { cells.width ≡ 8 },
+    pub ghost cut: { cells.width ≡ 8 },
 }
 
 impl<'a> Ledger<'a> {
@@ -54,7 +55,7 @@ impl<'a> Ledger<'a> {
         <[u8; 8]>::try_from(bytes).map_or(0, i64::from_be_bytes)
     }
 
-    // A ledger over the memory, all 0.
+    /// A ledger over the memory, all 0.
     pub fn new(desks: u8, width: u16, memory: &'a mut [u8]) -> Ledger<'a>
         ensures { Made desks width memory.entry result }
     {
@@ -99,7 +100,7 @@ impl<'a> Ledger<'a> {
         Ok(row * usize::from(self.width) + usize::from(figure))
     }
 
-    // A figure of a desk, and 0 where there is none.
+    /// A figure of a desk, and 0 where there is none: a sum of figures, or what must be covered, has no other case.
     pub fn figure(&self, desk: u8, figure: u16) -> i64
         ensures { result ≡ figure_at self.now desk figure }
     {
@@ -109,7 +110,7 @@ impl<'a> Ledger<'a> {
         self.cells.get(place).map_or(0, Self::value)
     }
 
-    // One figure is the value from here on. On a fault nothing changes.
+    /// One figure is the value from here on. On a fault nothing changes.
     pub fn set(&mut self, desk: u8, figure: u16, value: i64) -> Result<(), LedgerFault>
         ensures reply { result ≡ unless (first (set_tests self.old desk figure)) tt }
         ensures change { Set self.old desk figure value (is_ok result) self.new }
@@ -119,7 +120,7 @@ impl<'a> Ledger<'a> {
         Ok(())
     }
 
-    // One figure changes by so much. On a fault nothing changes.
+    /// One figure changes by so much. On a fault nothing changes.
     pub fn add(&mut self, desk: u8, figure: u16, change: i64) -> Result<(), LedgerFault>
         ensures reply { result ≡ unless (first (add_tests self.old desk figure change)) tt }
         ensures change { Added self.old desk figure change (is_ok result) self.new }
@@ -131,7 +132,7 @@ impl<'a> Ledger<'a> {
         self.set(desk, figure, sum)
     }
 
-    // The same figure for every desk whose figure the memory holds.
+    /// The same figure for every desk whose figure the memory holds.
     pub fn set_all(&mut self, figure: u16, value: i64)
         ensures { SetAll self.old figure value self.new }
     {
@@ -151,14 +152,14 @@ impl<'a> Ledger<'a> {
             .ok_or(LedgerFault::Uncounted)
     }
 
-    // The count of a desk, and 0 where there is none.
+    /// The count of a desk, and 0 where there is none.
     pub fn count(&self, desk: u8) -> u16
         ensures { result ≡ count_at self.now desk }
     {
         self.counted(desk).unwrap_or(0)
     }
 
-    // The count of a desk goes up by one. On a fault nothing changes.
+    /// The count of a desk goes up by one. On a fault nothing changes.
     pub fn raise(&mut self, desk: u8) -> Result<(), LedgerFault>
         ensures reply { result ≡ unless (first (raise_tests self.old desk)) tt }
         ensures change { Raised self.old desk (is_ok result) self.new }

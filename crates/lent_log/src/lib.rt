@@ -1,4 +1,4 @@
-// A list over lent places: the first `len` of them are in use, and it grows only at its end.
+//! A list over lent places: the first `len` of them are in use, and it grows only at its end.
 #![tactic(auto)]
 
 ghost use Rattle.std.specs.Prelude.{◌≡◌, ◌≤◌, [], length, ◌==◌, is_ok, is_some, IfErr};
@@ -15,14 +15,14 @@ impl<'a, T: Copy> Log<'a, T> {
     ghost use Rattle.lent_log.specs.Entries.{entries_of, size_of, room_of, entry_at};
     ghost use Rattle.lent_log.specs.Changes.{Made, Pushed, Replaced};
 
-    // An empty log. The places keep what they hold, which is not read.
+    /// An empty log. The places keep what they hold, which is not read.
     pub fn new(slots: &'a mut [T]) -> Log<'a, T>
         ensures { Made slots.entry result }
     {
         Log { slots, len: 0 }
     }
 
-    // How many entries there are: never more than places.
+    /// How many entries there are: never more than places.
     pub fn len(&self) -> usize
         ensures size { result ≡ size_of self.now }
         ensures within { result ≤ length self.now.slots.now }
@@ -36,21 +36,21 @@ impl<'a, T: Copy> Log<'a, T> {
         self.len == 0
     }
 
-    // How many more entries it takes.
+    /// How many more entries it takes.
     pub fn room(&self) -> usize
         ensures { result ≡ room_of self.now }
     {
         self.slots.len() - self.len
     }
 
-    // The entry at a place, none past the last.
+    /// The entry at a place, none past the last.
     pub fn get(&self, place: usize) -> Option<T>
         ensures { result ≡ entry_at self.now place }
     {
         self.entries().get(place).copied()
     }
 
-    // All entries, the oldest first.
+    /// All entries, the oldest first.
     pub fn entries(&self) -> &[T]
         ensures { result.now ≡ entries_of self.now }
     {
@@ -58,7 +58,8 @@ impl<'a, T: Copy> Log<'a, T> {
     }
 
     // Hands the places on whole, to write: every write goes through it. The log is empty and has none until `restore`.
-    // Lending `&mut *self.slots` would do in place of the pair; what the log then ends as is not proved of a slice behind a reference.
+    // Lending `&mut *self.slots` would do in place of the pair; what the log then ends as is not proved of a slice behind a
+    // reference.
     fn places(&mut self) -> &'a mut [T]
         ensures out { (result.now ≡ self.old.slots.now) × (result.ghost_name ≡ self.old.slots.ghost_name) }
         ensures rest { (self.new.slots.now ≡ []) × (self.new.len ≡ 0) }
@@ -76,7 +77,7 @@ impl<'a, T: Copy> Log<'a, T> {
         *self = Log { slots, len };
     }
 
-    // One more entry at the end. With no room it comes back, and nothing changed.
+    /// One more entry at the end. With no room it comes back, and nothing changed.
     pub fn push(&mut self, entry: T) -> Result<(), T>
         ensures change { Pushed self.old entry (is_ok result) self.new }
         ensures back { IfErr result (λ given. given ≡ entry) }
@@ -91,7 +92,7 @@ impl<'a, T: Copy> Log<'a, T> {
         Ok(())
     }
 
-    // Another entry at that place, for the one that stood there, which is answered. None past the last, and nothing changed.
+    /// Another entry at that place, for the one that stood there, which is answered. None past the last, and nothing changed.
     #[tactic(auto, using(crate::proofs::Writes::entry_written))]
     pub fn replace(&mut self, place: usize, entry: T) -> Option<T>
         ensures change { Replaced self.old place entry (is_some result) self.new }

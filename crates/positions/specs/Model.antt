@@ -14,7 +14,11 @@ kind = record { model = trades }
 abbrev pub Positions : Type 0
 Positions = Copies Trade kind
 
-pub positions_sound : (b : Positions) → Sound (positions b.ledger.desks) position_limit b.ledger.desks (figures b.ledger) (count_at b.ledger)
+-- at every value each desk has the figures of the rules, none beyond the limit, and no more items than it may have
+abbrev pub AllSound : Type 0
+AllSound = (b : Positions) → Sound (positions b.ledger.desks) position_limit b.ledger.desks (figures b.ledger) (count_at b.ledger)
+
+pub positions_sound : AllSound
 positions_sound = copies_sound kind
 
 abbrev pub positions_model : BookModel Positions

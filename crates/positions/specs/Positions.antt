@@ -1,7 +1,8 @@
 -- The rules of positions: every well-formed item is admitted, and adds its lots to one figure. Assumes nothing.
-use Rattle.std.specs.Prelude.{ℕ, ◌*◌, not, List, ℤ, pos, negsuc, neg_ℤ, is_some}
+use Rattle.std.specs.Prelude.{ℕ, ◌*◌, not, List, ℤ, pos, negsuc, is_some}
 use Rattle.desks.specs.Firsts.{first}
-use Rattle.book.specs.Rules.{Rules, shifted, total, at_place}
+use Rattle.book.specs.Rules.{Rules, shifted, at_place}
+use Rattle.copies.specs.Entries.{need_of}
 use Rattle.positions.specs.Trades.{lots, wrong_fields, target}
 
 abbrev pub figures_of_a_desk : ℕ
@@ -28,4 +29,4 @@ positions n = record {
 
 -- the lots that would bring a desk's net to 0
 abbrev pub hedge_need : List ℤ → ℤ
-hedge_need f = neg_ℤ (total f)
+hedge_need = need_of

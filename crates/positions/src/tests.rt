@@ -1,7 +1,6 @@
 use crate::{Positions, Trade};
 use book::{Book, BookFault, Hedged, Item, Opening, form};
 use desks::ITEM_SIZE;
-use std::process::Abort;
 use std::test::Fail;
 
 fn bytes(kind: u8, instrument: u8, lots: i32, zeros: [u8; 2]) -> [u8; ITEM_SIZE] {
@@ -52,11 +51,10 @@ fn reads_each_field_to_its_edges(rt: HostRuntime) {
 }
 
 // Only fills take an opening, of at most 10,000 lots either way.
-fn open_to_the_edges<'a, B: Book<'a> + Drop>(
-    rt: &impl Abort,
-    memory: &'a mut [u8],
-) -> Result<(), Fail> {
-    let mut book = form::<B>(2, memory)?;
+#[test]
+fn opens_to_the_edges(rt: HostRuntime) -> Result<(), Fail> {
+    let mut memory = [0u8; 2048];
+    let mut book: Positions<'_> = form(2, &mut memory)?;
     let cases = [
         (0, 10_000, Ok(())),
         (63, -10_000, Ok(())),
@@ -75,18 +73,11 @@ fn open_to_the_edges<'a, B: Book<'a> + Drop>(
     Ok(())
 }
 
-#[test]
-fn opens_to_the_edges(rt: HostRuntime) -> Result<(), Fail> {
-    let mut memory = [0u8; 2048];
-    open_to_the_edges::<Positions<'_>>(&rt, &mut memory)
-}
-
 // An item entered at desk 0 changes nothing at desk 1.
-fn enter_at_one_desk<'a, B: Hedged<'a> + Drop>(
-    rt: &impl Abort,
-    memory: &'a mut [u8],
-) -> Result<(), Fail> {
-    let mut book = form::<B>(2, memory)?;
+#[test]
+fn enters_at_one_desk(rt: HostRuntime) -> Result<(), Fail> {
+    let mut memory = [0u8; 2048];
+    let mut book: Positions<'_> = form(2, &mut memory)?;
     book.open(opening(7, 500))?;
     book.enter(0, item(1, 1, 7, -200))?;
     book.enter(0, item(1, 2, 7, 50))?;
@@ -103,10 +94,4 @@ fn enter_at_one_desk<'a, B: Hedged<'a> + Drop>(
         assert_eq!(rt; book.need(desk)?, need);
     }
     Ok(())
-}
-
-#[test]
-fn enters_at_one_desk(rt: HostRuntime) -> Result<(), Fail> {
-    let mut memory = [0u8; 2048];
-    enter_at_one_desk::<Positions<'_>>(&rt, &mut memory)
 }

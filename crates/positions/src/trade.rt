@@ -7,14 +7,14 @@ use book::{Item, WrongField};
 use copies::{Entry, Hedging, Movement, Openings};
 use desks::ITEM_SIZE;
 
-// Whether lots were filled for a client or hedged by the desk.
+/// Whether lots were filled for a client or hedged by the desk.
 #[derive(Clone, Copy, PartialEq, Eq, Debug)]
 pub enum Side {
     Fill,
     Hedge,
 }
 
-// A well-formed item: so many lots of an instrument, sold where negative.
+/// A well-formed item: so many lots of an instrument, sold where negative.
 #[derive(Clone, Copy, PartialEq, Eq, Debug)]
 pub struct Trade {
     pub side: Side,
@@ -29,6 +29,7 @@ impl TryFrom<[u8; ITEM_SIZE]> for Trade {
 
     // Reads an item.
     fn try_from(item: [u8; ITEM_SIZE]) -> Result<Trade, WrongField> {
+        // The pattern names each byte; a type for the fields of both books would be taken apart here again.
         let [kind, instrument, a, b, c, d, e, f] = item;
         let side = match kind {
             1 => Side::Fill,
@@ -54,7 +55,7 @@ impl TryFrom<[u8; ITEM_SIZE]> for Trade {
 }
 
 impl Trade {
-    // The figure that it changes.
+    /// The figure that it changes.
     pub fn figure(self) -> u16
         ensures { result ≡ figure_of self }
     {

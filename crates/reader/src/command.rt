@@ -5,7 +5,7 @@ ghost use Rattle.reader.specs.Kinds.{kind_of, allows};
 use book::Opening;
 use desks::GroupParameters;
 
-// How far a script has come.
+/// How far a script has come.
 #[derive(Clone, Copy, Debug, PartialEq, Eq)]
 pub enum Stage {
     Unformed,
@@ -14,8 +14,8 @@ pub enum Stage {
     Closed,
 }
 
-// What a form command asks for: a group, and the number of a book.
-// The number stays a byte: a command and its bytes determine each other, and the floor is what refuses a number of no book.
+/// What a form command asks for: a group, and the number of a book.
+/// The number stays a byte: a command and its bytes determine each other, and the floor is what refuses a number of no book.
 #[derive(Clone, Copy, Debug, PartialEq, Eq)]
 pub struct Forming {
     pub parameters: GroupParameters,
@@ -31,7 +31,7 @@ pub enum Command {
     Close,
 }
 
-// What a command's letter says of it.
+/// What a command's letter says of it. It is known before the operands are read, and the stage is asked between.
 #[derive(Clone, Copy, Debug, PartialEq, Eq)]
 pub enum Kind {
     Form,
@@ -41,7 +41,7 @@ pub enum Kind {
     Close,
 }
 
-// No command has this letter.
+/// No command has this letter.
 #[derive(Clone, Copy, Debug, PartialEq, Eq)]
 pub struct UnknownLetter;
 
@@ -63,7 +63,7 @@ impl TryFrom<u8> for Kind {
 }
 
 impl Stage {
-    // Whether a command of that kind may come.
+    /// Whether a command of that kind may come.
     pub fn allows(self, kind: Kind) -> bool
         ensures { result ≡ allows self kind }
     {

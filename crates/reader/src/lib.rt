@@ -1,5 +1,7 @@
-// The commands of a script, and the reader that takes them from its bytes.
+//! The commands of a script, and the reader that takes them from its bytes.
 #![tactic(auto)]
+
+pub use book::Opening;
 
 mod command;
 mod faults;

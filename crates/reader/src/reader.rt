@@ -9,8 +9,8 @@ use crate::faults::ScriptFault;
 use book::Opening;
 use desks::{DeskSet, Group};
 
-// A script, which holds bytes, and the position of the next command in it, which is at most its length.
-#[derive(Drop)]
+/// A script, which holds bytes, and the position of the next command in it, which is at most its length.
+#[derive(Debug, Drop)]
 pub struct Reader<'a> {
     script: &'a [u8],
     position: usize,
@@ -54,7 +54,7 @@ impl<'a> Reader<'a> {
         self.position
     }
 
-    // The next command; none at the end of the script. The position moves past a command that is read, and otherwise stays.
+    /// The next command; none at the end of the script. The position moves past a command that is read, and otherwise stays.
     pub fn next(&mut self, stage: Stage) -> Result<Option<Command>, ScriptFault>
         ensures answer { result ≡ read self.old.script.now self.old.position stage }
         ensures position { self.new.position ≡ position_after self.old.position result }
@@ -73,7 +73,8 @@ impl<'a> Reader<'a> {
         let Some(first) = guard.reader.take::<1>() else {
             return Ok(None);
         };
-        let kind = Kind::try_from(first[0]).map_err(|_| ScriptFault::Unknown(start))?;
+        let [letter] = first;
+        let kind = Kind::try_from(letter).map_err(|_| ScriptFault::Unknown(start))?;
         if !stage.allows(kind) {
             return Err(ScriptFault::Stage(start));
         }
@@ -122,7 +123,7 @@ impl<'a> Reader<'a> {
         }))
     }
 
-    // The command of that kind, whose operands begin at the position.
+    // The command of that kind, whose operands begin at the position. A match, since each kind has operands of its own.
     fn operands(&mut self, kind: Kind) -> Option<Command>
         ensures { Takes self.old (operand_bytes kind) (command_at self.old.script.now self.old.position kind) result self.new }
     {

@@ -10,7 +10,7 @@ use account::{FigureLine, Line, NeedLine};
 use std::alloc::AllocError;
 
 // A part of what closing shows of each desk.
-// A trait and no closure: the check covers no closure under a bound with a lifetime that nothing it captures names.
+// A trait and no closure: a closure gets no proof here unless something that it captures names the lifetime of the bound.
 pub(crate) trait Part<'a, B: DayBook<'a>> {
     ghost lines_of: { B → ℕ → List Line };
 
@@ -27,6 +27,7 @@ impl<'a, B: DayBook<'a>> Part<'a, B> for Figures {
 
     fn print(book: &B, desk: u8, lines: &mut Vec<Line>) -> Result<(), AllocError> {
         for figure in 0..book.width() {
+            // Each figure below the width is there.
             let value = book.figure(desk, figure).unwrap_or(0);
             note(lines, figure_line(desk, figure, value))?;
         }
@@ -57,7 +58,7 @@ fn figure_line(desk: u8, figure: u16, value: i64) -> Option<Line>
     }))
 }
 
-// Adds a line, where there is one.
+// Adds a line, where there is one. By a `push`: the check does not find what `extend` leaves in the loop above.
 fn note(lines: &mut Vec<Line>, line: Option<Line>) -> Result<(), AllocError>
     ensures { Prints lines.old (option_to_list line) result lines.new }
 {

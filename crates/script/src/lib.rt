@@ -1,4 +1,4 @@
-// A whole script: its commands on one floor, and the account that it prints.
+//! A whole script: its commands on one floor, and the account that it prints.
 #![tactic(auto)]
 
 mod books;

@@ -12,7 +12,7 @@ use floor::BookKind;
 use positions::Positions;
 use std::alloc::{AllocError, Global};
 
-// The lines of a whole script, on lent memory.
+/// The lines of a whole script, on lent memory.
 pub fn run(heap: Global, script: &[u8], memory: &mut [u8]) -> Result<Vec<Line>, AllocError>
     ensures { IfOk result (λ lines. lines.items ≡ account_of (length memory.old) script.now) }
 {
@@ -30,7 +30,7 @@ pub fn run(heap: Global, script: &[u8], memory: &mut [u8]) -> Result<Vec<Line>, 
 // The memory that a script lends: enough for 6 desks and either book.
 const MEMORY: usize = 6144;
 
-// The account of a whole script, as text. Whatever the script does, no two desks are shown with different figures or needs.
+/// The account of a whole script, as text. Whatever the script does, no two desks are shown with different figures or needs.
 pub fn account_text(heap: Global, script: &[u8]) -> Result<String, AllocError>
     ensures alike { ShownAlike (account_of script_memory script.now) }
     ensures text { IfOk result (λ text. string_bytes text ≡ account (account_of script_memory script.now)) }

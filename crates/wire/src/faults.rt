@@ -1,12 +1,12 @@
-// Why a frame is not put on a wire, or not marked there.
+/// Why a frame is not put on a wire, or not marked there.
 #[derive(Clone, Copy, PartialEq, Eq, Debug)]
 pub enum WireFault {
-    // The content has this many bytes, which is not the size that the wire is for.
+    /// The content has this many bytes, which is not what the wire is for, or more than a place holds.
     Length(usize),
-    // The wire holds this many frames, and has no place left.
+    /// The wire holds this many frames, and has no place left.
     NoRoom(usize),
-    // No desk has this number.
+    /// No desk has this number.
     Desk(u8),
-    // No frame stands at this place of the wire.
+    /// No frame stands at this place of the wire.
     NoFrame(usize),
 }

@@ -1,4 +1,4 @@
-// The wire of a group: the frames that its desks sent, the oldest first, each with its sender and the desks that took it.
+//! The wire of a group: the frames that its desks sent, the oldest first, each with its sender and the desks that took it.
 #![tactic(auto)]
 
 mod faults;

@@ -7,11 +7,11 @@ ghost use Rattle.wire.specs.Posted.{posted, new_frame, fresh, TakenBy};
 use desks::{DeskSet, ITEM_SIZE};
 use frame::{Body, Frame, Kind};
 
-// The most bytes that a content has: a barrier byte for each of 16 desks, and an item.
+/// The most bytes that a content has: a barrier byte for each of 16 desks, and an item.
 pub const MOST_CONTENT: usize = 16 + ITEM_SIZE;
 
-// A frame on the wire. Of the content only the bytes that the group's contents have are in use: a place of the wire is
-// memory of a fixed size, lent by the caller, so each frame has room for the longest.
+/// A frame on the wire. Of the content only the bytes that the group's contents have are in use: a place of the wire is
+/// memory of a fixed size, lent by the caller, so each frame has room for the longest.
 #[derive(Clone, Copy, PartialEq, Eq, Debug)]
 pub struct Sent {
     sender: u8,
@@ -45,7 +45,7 @@ impl Sent {
         }
     }
 
-    // What fills places before any frame is sent.
+    /// What fills places before any frame is sent.
     pub fn blank() -> Sent
         ensures kept { result ≡ fresh 0 Init 0 0 [] }
         ensures meaning { posted 0 result ≡ new_frame 0 Init 0 0 [] }
@@ -95,14 +95,14 @@ impl Sent {
         self.number
     }
 
-    // The desks that took it.
+    /// The desks that took it.
     pub fn taken(self) -> DeskSet
         ensures { result ≡ self.taken }
     {
         self.taken
     }
 
-    // The first bytes of its content: as many as the group's contents have.
+    /// The first bytes of its content: as many as the group's contents have.
     pub fn content(&self, width: u8) -> Option<&[u8]>
         ensures { option_copied result ≡ (if nat_le width 24 then Some (take width self.now.content) else None) }
     {

@@ -40,7 +40,7 @@ fn two_frames(rt: HostRuntime) {
     assert!(rt; second.taken().has(4));
     assert_eq!(rt; second.taken().has(0), false);
     assert_eq!(rt; second.sender(), 3);
-    assert!(rt; matches!(second.kind(), Kind::Echo));
+    assert_eq!(rt; second.kind(), Kind::Echo);
     assert_eq!(rt; second.origin(), 1);
     assert_eq!(rt; second.number(), 2);
 }

@@ -14,7 +14,7 @@ use crate::sent::{MOST_CONTENT, Sent};
 use frame::Frame;
 use lent_log::Log;
 
-// A list of frames over lent places, for contents of `width` bytes: as many as the group that is formed has.
+/// A list of frames over lent places, for contents of `width` bytes: as many as the group that is formed has.
 #[derive(Debug, Drop)]
 pub struct Wire<'a> {
     log: Log<'a, Sent>,
@@ -22,7 +22,7 @@ pub struct Wire<'a> {
 }
 
 impl<'a> Wire<'a> {
-    // An empty wire. What the places hold is not read.
+    /// An empty wire. What the places hold is not read.
     #[tactic(auto, unfolding(crate::specs::Posted::frames))]
     pub fn new(places: &'a mut [Sent], width: u8) -> Wire<'a>
         ensures { Made places.entry width result }
@@ -33,7 +33,7 @@ impl<'a> Wire<'a> {
         }
     }
 
-    // How many frames it holds.
+    /// How many frames it holds.
     #[tactic(auto, using(crate::proofs::Kept::frames_size))]
     pub fn held(&self) -> usize
         ensures { result ≡ length (frames self.now) }
@@ -41,7 +41,7 @@ impl<'a> Wire<'a> {
         self.log.len()
     }
 
-    // How many more it has places for.
+    /// How many more it has places for.
     #[tactic(auto, using(crate::proofs::Kept::frames_room))]
     pub fn room(&self) -> usize
         ensures { result ≡ places_of self.now - length (frames self.now) }
@@ -49,7 +49,7 @@ impl<'a> Wire<'a> {
         self.log.room()
     }
 
-    // The frame at a place, none past the last.
+    /// The frame at a place, none past the last.
     #[tactic(auto, using(crate::proofs::Kept::frames_nth))]
     pub fn get(&self, place: usize) -> Option<Sent>
         ensures kept { result ≡ entry_at self.now.log place }
@@ -58,7 +58,7 @@ impl<'a> Wire<'a> {
         self.log.get(place)
     }
 
-    // The desk took the frame at that place.
+    /// The desk took the frame at that place.
     #[tactic(auto, using(crate::proofs::Kept::standing))]
     pub fn mark(&mut self, place: usize, desk: u8) -> Result<(), WireFault>
         ensures answer { result ≡ unless (first (mark_tests self.old place desk)) tt }
@@ -72,7 +72,7 @@ impl<'a> Wire<'a> {
         Ok(())
     }
 
-    // A new frame of a desk at the end.
+    /// A new frame of a desk at the end.
     #[tactic(auto, using(crate::proofs::Kept::standing), unfolding(crate::specs::Posted::frames))]
     pub fn post(&mut self, sender: u8, frame: Frame<'_>) -> Result<(), WireFault>
         ensures answer { result ≡ unless (first (post_tests self.old (frame_content frame.entry))) tt }

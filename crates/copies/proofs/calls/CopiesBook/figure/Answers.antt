@@ -12,10 +12,9 @@ returns g c =
     let b = c.args.self.now in
     let fits : SFits w64 c.figure.result = search rules in
     let z = to_z-of_z w64 c.figure.result fits ∙ c.figure.ensures ∙ sym (get_or_figures b.ledger c.args.desk c.args.figure) in
-    let d : leb c.desks.result c.args.desk ≡ false = passed _ _ c.in_ok-check_desk.ensures in
-    let d' : leb b.ledger.desks c.args.desk ≡ false = rw c.desks.ensures at d in
+    let d : leb b.ledger.desks c.args.desk ≡ false = passed _ _ c.in_ok-check_desk.ensures in
     let i : leb (m.rules b.ledger.desks).width c.args.figure ≡ false = lt-leb (m.rules b.ledger.desks).width c.args.figure (rw (c.width.ensures, b.sized.1) at c.if-figure-width.false) in
     record {
-      value = rw (d', i) (ap (λ y. Ok y) z);
+      value = rw (d, i) (ap (λ y. Ok y) z);
       within = subst (λ y. nat_abs y ≤ m.limit) (sym z) ((copies_sound g.E.Entry b).within c.args.desk c.args.figure);
     }
