@@ -29,6 +29,7 @@ pub enum BookFault {
     Full(u8),
 }
 
+// Lifted by hand, since a derived `From` has no contract.
 impl From<FormFault> for BookFault {
     ghost from_gives = { λ f r. r ≡ Form f };
 

@@ -28,6 +28,7 @@ pub enum CarrierFault {
     Second(u8),
 }
 
+// Lifted by hand, since a derived `From` has no contract.
 impl From<FormFault> for CarrierFault {
     ghost from_gives = { λ f r. r ≡ Form f };
 

@@ -14,6 +14,7 @@ pub enum FloorFault {
     Book(BookFault),
 }
 
+// Lifted by hand, since a derived `From` has no contract.
 impl From<FormFault> for FloorFault {
     ghost from_gives = { λ f r. r ≡ Form f };
 

@@ -18,6 +18,7 @@ pub enum ScriptFault {
     Floor(FloorFault),
 }
 
+// Lifted by hand, since a derived `From` has no contract.
 impl From<FloorFault> for ScriptFault {
     ghost from_gives = { λ f r. r ≡ Floor f };
 
