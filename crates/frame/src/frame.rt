@@ -12,7 +12,7 @@ pub struct Body<'a> {
     pub content: &'a [u8],
 }
 
-/// A frame, by its kind.
+/// A frame, by its kind: a case for each, beside `Kind`, so that a match on a frame has its body at hand.
 #[derive(Clone, Copy, PartialEq, Eq, Debug)]
 pub enum Frame<'a> {
     Init(Body<'a>),
