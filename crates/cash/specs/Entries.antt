@@ -17,7 +17,7 @@ abbrev pub move_of : Payment → ℕ → Movement
 move_of p o = record { amount = pos p.amount; to = p.payee; from = Some o }
 
 -- what the fields of a well-formed payment say
-payment_bounded : (n o : ℕ) (x : List ℕ) → o < n → first (wrong_fields n o x) ≡ None → Bounded n 1000000 (move_of (payment_of x) o)
+pub payment_bounded : (n o : ℕ) (x : List ℕ) → o < n → first (wrong_fields n o x) ≡ None → Bounded n 1000000 (move_of (payment_of x) o)
 payment_bounded n o x h w =
     let e = or_parts (nat_le n (byte 1 x)) (byte 1 x == o) (none_holds (wrong_fields n o x) w 1) in
     let a = or_parts (nat_lt (quantity x) 1) (nat_lt 1000000 (quantity x)) (none_holds (wrong_fields n o x) w 2) in

@@ -1,0 +1,2 @@
+-- Lemmas on frames, for the crates above.
+pub mod Determined

@@ -1,1 +1,2 @@
 pub mod NetLimit
+mod Enter

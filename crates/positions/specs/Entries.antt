@@ -16,13 +16,13 @@ use Rattle.positions.specs.Positions.{positions, position_bytes, position_limit}
 use Rattle.positions.specs.Laws.{positions_lawful}
 
 -- what the fields of a well-formed item say
-lots_small : (x : List ℕ) → first (wrong_fields x) ≡ None → unsigned_abs (lots x) ≤ 10000
+pub lots_small : (x : List ℕ) → first (wrong_fields x) ≡ None → unsigned_abs (lots x) ≤ 10000
 lots_small x h =
     let k = or_parts (quantity x == 0) (int_lt (lots x) (negsuc 9999) || int_lt (pos 10000) (lots x)) (none_holds (wrong_fields x) h 2) in
     let m = or_parts (int_lt (lots x) (negsuc 9999)) (int_lt (pos 10000) (lots x)) k.1 in
     nat_abs_between (lots x) 9999 m.0 m.1
 
-target_known : (x : List ℕ) → first (wrong_fields x) ≡ None → target x < 128
+pub target_known : (x : List ℕ) → first (wrong_fields x) ≡ None → target x < 128
 target_known x h = on (byte 0 x == 1) (ltb-false 63 (byte 1 x) (none_holds (wrong_fields x) h 1)) where
   on : (t : Bool) → byte 1 x ≤ 63 → figure_on (cond t Fill Hedge) (byte 1 x) < 128
   on true i = omega arith

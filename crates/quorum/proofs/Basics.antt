@@ -60,6 +60,13 @@ module _ {C : Type 0} (S : Setting C) (F : Valid S) where
   pub same_from_some : (o : Option C) (c : C) → o ≡ Some c → is_same S o c ≡ true
   same_from_some o c e = rw e (F.same_refl c)
 
+  -- what was there is there; what is there was there, or is c
+  pub is_kept : (o : Option C) (b : Bool) (c x : C) → is_same S o x ≡ true → is_same S (settle o b c) x ≡ true
+  is_kept o b c x e = same_from_some _ x (settle_kept o b c x (some_from_same o x e))
+
+  pub is_cases : (o : Option C) (b : Bool) (c x : C) → is_same S (settle o b c) x ≡ true → (is_same S o x ≡ true) ⊎ ((b ≡ true) × (x ≡ c))
+  is_cases o b c x e = ⊎_elim (λ a. inl (same_from_some o x a)) (λ a. inr a) (settle_cases o b c x (some_from_same _ x e))
+
   pub cases_same : (x y : C) → (x ≡ y) ⊎ (x ≡ y → ⊥)
   cases_same x y = ⊎_elim (λ e. inl (F.same_true x y e)) (λ n. inr (λ e. both_ways _ n (rw e (F.same_refl y)))) (cases_Bool (S.same x y))
 
@@ -93,3 +100,6 @@ module _ {K C : Type 0} where
   fresh_all P d k (Some x) o' h = All-nil P
   fresh_all P d k None (Some c) h = All-push P [] (new d k c) (All-nil P) (h c refl)
   fresh_all P d k None None h = All-nil P
+
+  pub all_both : (P Q : Frame K C → Type 0) (w : List (Frame K C)) → All P w → All Q w → All (λ f. P f × Q f) w
+  all_both P Q w a b i f l = (a i f l, b i f l)

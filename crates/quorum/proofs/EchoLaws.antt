@@ -11,7 +11,7 @@ use Rattle.quorum.specs.EchoInvariant.{says, by, Heard, Told, Backed, Sound}
 use Rattle.quorum.proofs.Counting.{cnt_le}
 use Rattle.quorum.proofs.Among.{among_whole}
 use Rattle.quorum.proofs.EchoKinds.{eqk_true}
-use Rattle.quorum.proofs.Basics.{same_from_some, some_inj, some_yes, some_value, pick}
+use Rattle.quorum.proofs.Basics.{all_both, same_from_some, some_inj, some_yes, some_value, pick}
 use Rattle.quorum.proofs.EchoOne.{votes_bound, votes_all, agreement, echo_backs, accepted_backs, backed_echoed}
 
 module _ {C : Type 0} (S : Setting C) (F : Valid S) (enough : 3 * S.t < S.n) (s : State C) (sound : Sound S s) where
@@ -44,7 +44,7 @@ module _ {C : Type 0} (S : Setting C) (F : Valid S) (enough : 3 * S.t < S.n) (s 
     -- what a desk sent, all heard
     heard_by_all : (e q : ℕ) (k : Kind) (x : C) → Correct S e → Correct S q → says S s q k ≡ Some x → Heard s e q k x
     heard_by_all e q k x ge gq h =
-        pick (by q k) (λ f. Told S s f × ((d : ℕ) → Correct S d → f.taken d ≡ true)) (Heard s e q k x) s.wire (λ i f l. (sound.frames i f l, taken i f l)) (sound.posted q k gq (some_yes _ x h))
+        pick (by q k) (λ f. Told S s f × ((d : ℕ) → Correct S d → f.taken d ≡ true)) (Heard s e q k x) s.wire (all_both (Told S s) (λ f. (d : ℕ) → Correct S d → f.taken d ≡ true) s.wire sound.frames taken) (sound.posted q k gq (some_yes _ x h))
         (λ f a y.
         let p : f.sender ≡ q = eqb-true _ _ (and_parts _ _ y).0 in
         let l : f.kind ≡ k = eqk_true _ _ (and_parts (eqb f.sender q) _ y).1 in

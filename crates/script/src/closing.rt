@@ -7,6 +7,7 @@ ghost use Rattle.script.specs.Meaning.{Prints};
 
 use crate::books::DayBook;
 use account::{FigureLine, Line, NeedLine};
+use book::Book;
 use std::alloc::AllocError;
 
 // A part of what closing shows of each desk.
@@ -26,12 +27,7 @@ impl<'a, B: DayBook<'a>> Part<'a, B> for Figures {
     ghost lines_of = { λ b. figure_lines (rules_of B.Book.model b).width (B.Book.model.figures b) };
 
     fn print(book: &B, desk: u8, lines: &mut Vec<Line>) -> Result<(), AllocError> {
-        for figure in 0..book.width() {
-            // Each figure below the width is there.
-            let value = book.figure(desk, figure).unwrap_or(0);
-            note(lines, figure_line(desk, figure, value))?;
-        }
-        Ok(())
+        figure_lines(book, desk, lines)
     }
 }
 
@@ -42,9 +38,23 @@ impl<'a, B: DayBook<'a>> Part<'a, B> for Need {
     ghost lines_of = { λ b desk. need_line desk (B.DayBook.needs (B.Book.model.figures b desk)) };
 
     fn print(book: &B, desk: u8, lines: &mut Vec<Line>) -> Result<(), AllocError> {
-        let need = book.need_of(desk);
-        note(lines, need.map(|need| Line::Need(NeedLine { desk, need })))
+        note(lines, need_line(desk, book.need_of(desk)))
     }
+}
+
+// The lines of a desk's figures, and none at a desk that the book does not have.
+fn figure_lines<'a, B: Book<'a>>(
+    book: &B,
+    desk: u8,
+    lines: &mut Vec<Line>,
+) -> Result<(), AllocError>
+    ensures { Prints lines.old (figure_lines (rules_of B.Book.model book.now).width (B.Book.model.figures book.now) desk) result lines.new }
+{
+    for figure in 0..book.width() {
+        let value = book.figure(desk, figure).unwrap_or(0);
+        note(lines, figure_line(desk, figure, value))?;
+    }
+    Ok(())
 }
 
 // The line of a figure, unless it is 0.
@@ -56,6 +66,13 @@ fn figure_line(desk: u8, figure: u16, value: i64) -> Option<Line>
         figure,
         value,
     }))
+}
+
+// The line of a hedge need, where there is one.
+fn need_line(desk: u8, need: Option<i64>) -> Option<Line>
+    ensures { option_to_list result ≡ need_line desk need }
+{
+    need.map(|need| Line::Need(NeedLine { desk, need }))
 }
 
 // Adds a line, where there is one. By a `push`: the check does not find what `extend` leaves in the loop above.

@@ -43,7 +43,7 @@ impl<'a, B: DayBook<'a>> Day<B> {
         lines: &mut Vec<Line>,
     ) -> Result<(), AllocError>
         ensures printed { Prints lines.old (day_lines offset (day_of B.DayBook self.old) command) result lines.new }
-        ensures after { OnOk result (day_of B.DayBook self.new ≡ day_after (day_of B.DayBook self.old) command) }
+        ensures after { day_of B.DayBook self.new ≡ day_after (day_of B.DayBook self.old) command }
     {
         // A match, since each command changes and prints something of its own.
         match command {

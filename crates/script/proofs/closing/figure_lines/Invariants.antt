@@ -1,6 +1,6 @@
 use Rattle.std.proofs.Common.{◌≡◌, ◌++◌, get_or, pos, vec_items}
 use Rattle.script.specs.Days.{each, figure_line}
-use Rattle.script.proofs.closing.FiguresPart.print.Given as goal
+use Rattle.script.proofs.closing.figure_lines.Given as goal
 
 abbrev pub invariant-loop-figure : goal.invariant-loop-figure
 invariant-loop-figure g l =
