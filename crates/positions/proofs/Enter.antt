@@ -9,18 +9,14 @@ use Rattle.book.specs.Model.{most_items}
 use Rattle.copies.specs.Carrying.{Ready}
 use Rattle.copies.proofs.Carry.{given, reach, still_sized}
 use Rattle.positions.specs.Trades.{lots, wrong_fields, target, trade_of}
-use Rattle.positions.specs.Entries.{move_of, trades, lots_small, target_known}
+use Rattle.positions.specs.Entries.{move_of, trades, trade_bounded}
 use Rattle.positions.specs.Model.{Positions}
 
 module _ (b : Positions) (d : ℕ) (x : List ℕ) (r r' : Bool) (l l' : Ledger)
     (w : first (wrong_fields x) ≡ None) (h : d < b.ledger.desks) (k : count_at b.ledger d < most_items)
     (p : Raised b.ledger d r l) (q : Added l d (target x) (lots x) r' l') where
   ready : Ready 10000 b.ledger d (move_of (trade_of x))
-  ready = record {
-    desk = h;
-    few = k;
-    bounded = record { to = rw b.sized.1 (target_known x w); amount = lots_small x w; from = λ i e. absurd (cc) };
-  }
+  ready = record { desk = h; few = k; bounded = rw b.sized.1 (trade_bounded x w) }
 
   -- what a value of positions keeps
   pub kept : Whole l' × ((2 ≤ l'.desks) × (l'.width ≡ 128)) × Counted most_items l' × Within 10000 10000 l'

@@ -8,7 +8,7 @@ use Rattle.desks.proofs.Passed.{none_holds}
 use Rattle.book.specs.Items.{byte, quantity}
 use Rattle.book.proofs.Orders.{nat_abs_between}
 use Rattle.copies.specs.declared.entry.Movement.{Movement}
-use Rattle.copies.specs.Entries.{EntryModel, Ruled}
+use Rattle.copies.specs.Entries.{EntryModel, Ruled, Bounded}
 use Rattle.positions.specs.declared.trade.Side.TheVariants.{Fill, Hedge}
 use Rattle.positions.specs.declared.trade.Trade.{Trade}
 use Rattle.positions.specs.Trades.{lots, wrong_fields, trade_of, figure_on, figure_of, target}
@@ -31,12 +31,15 @@ target_known x h = on (byte 0 x == 1) (ltb-false 63 (byte 1 x) (none_holds (wron
 abbrev pub move_of : Trade → Movement
 move_of t = record { amount = t.lots; to = figure_of t; from = None }
 
+pub trade_bounded : (x : List ℕ) → first (wrong_fields x) ≡ None → Bounded 128 10000 (move_of (trade_of x))
+trade_bounded x w = record { to = target_known x w; amount = lots_small x w; from = λ i e. absurd (cc) }
+
 pub trades_ruled : (n : ℕ) → Ruled n (positions n) 10000 10000 (λ o x. move_of (trade_of x))
 trades_ruled n = record {
   opens = λ a h. let k = or_parts (int_lt a (negsuc 9999)) (int_lt (pos 10000) a) h in nat_abs_between a 9999 k.0 k.1;
   admits = λ o x f. sym (and-true _);
   entered = λ o x f. refl;
-  bounded = λ o x h w. record { to = target_known x w; amount = lots_small x w; from = λ i e. absurd (cc) };
+  bounded = λ o x h w. trade_bounded x w;
 }
 
 abbrev pub trades : EntryModel Trade
